@@ -33,10 +33,12 @@ pub mod FrameStartLemmas
 pub mod Matching
 pub mod OpenedInTurn
 pub mod ParserLemmas
+pub mod EmptyLines
 pub mod Lazy
 pub mod Depths
 pub mod StartLemmas
 pub mod MarkerPlaces
+pub mod PlainItems
 pub mod ContinuationLemmas
 pub mod RunLemmas
 pub mod PutLemmas

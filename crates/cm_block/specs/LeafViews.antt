@@ -18,15 +18,15 @@ ended text = text ++ 10 ∷ []
 abbrev pub code_of : List ℕ → List ℕ → spec.OpenLeaf
 code_of text blank_lines = open_code (ended text) (suc (line_feeds text)) blank_lines (line_feeds blank_lines)
 
--- the leaf of this kind with this text
-abbrev pub leaf_with : LeafKind → List ℕ → spec.OpenLeaf
-leaf_with Nothing text = no_leaf
-leaf_with Run text = open_text text
-leaf_with (Code blank_lines) text = code_of text blank_lines
-leaf_with (Fence kind info columns) text =
-    open_fence (record { marker = kind.marker; count = kind.count; info = string_bytes info }) columns text (suc (line_feeds text))
-leaf_with (Html kind) text = open_html (kind_of kind) (ended text) (suc (line_feeds text))
+-- the leaf of this kind with this text, these blank lines after it, and this info string
+abbrev pub leaf_with : LeafKind → (text blank_lines info : List ℕ) → spec.OpenLeaf
+leaf_with Nothing text blank_lines info = no_leaf
+leaf_with Run text blank_lines info = open_text text
+leaf_with Code text blank_lines info = code_of text blank_lines
+leaf_with (Fence kind columns) text blank_lines info =
+    open_fence (record { marker = kind.marker; count = kind.count; info = info }) columns text (suc (line_feeds text))
+leaf_with (Html kind) text blank_lines info = open_html (kind_of kind) (ended text) (suc (line_feeds text))
 
 -- the open leaf that a value of the program represents
 abbrev pub leaf_of : OpenLeaf → spec.OpenLeaf
-leaf_of leaf = leaf_with leaf.kind leaf.text
+leaf_of leaf = leaf_with leaf.kind leaf.text leaf.blank_lines (string_bytes leaf.info)

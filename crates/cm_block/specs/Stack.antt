@@ -1,7 +1,6 @@
 -- The stack that a parser holds, in which no line is kept: the open block quotes, lists and items from the outside in, each with what
 -- is closed in it; the open leaf; the owners of the lines so far; and the link reference definitions so far. How a line is added to
 -- it (`push_line`) needn't be believed, since laws tie that to the definition of blocks by cases.
-use Rattle.std.specs.FinMap.{empty}
 use Rattle.std.specs.Prelude.{ℕ, zero, suc, Bool, true, false, List, [], ◌∷◌, ◌++◌, replicate, Option, Some, None}
 use Rattle.cm_text.specs.Rules.{Rules}
 use Rattle.cm_text.specs.Lines.{LineView}
@@ -39,7 +38,7 @@ stack level now owned = record { level = level; now = now; owned = owned }
 
 -- the stack of no lines
 abbrev pub empty_stack : Stack
-empty_stack = stack empty_level (in_leaf no_leaf) (record { owners = []; leaves = 0; table = empty })
+empty_stack = stack empty_level (in_leaf no_leaf) (record { owners = []; leaves = 0; table = [] })
 
 -- Closing
 

@@ -1,5 +1,4 @@
 -- Worked examples: what the stack holds after the lines of a text.
-use Rattle.std.specs.FinMap.{empty, insert}
 use Rattle.std.specs.Prelude.{◌≡◌, ℕ, true, false, List, [], ◌∷◌, codes, Some, None}
 use Rattle.cm_text.specs.Rules.{profile}
 use Rattle.cm_text.specs.Lines.{plain_lines_of}
@@ -33,37 +32,37 @@ behind_a_definition = block_opens (push_blank (block_closes opened_level (Quote 
 
 -- only the label `a` is defined, with this target
 abbrev pub one_target : Targets
-one_target = insert empty (codes "a") (codes "/u", [])
+one_target = (codes "a", (codes "/u", [])) ∷ []
 
 -- a quote, of a list with two items
 abbrev pub two_items_in_a_quote : Block
 two_items_in_a_quote = Quote (ListBlock Dash true ((text_paragraph (codes "a") ∷ []) ∷ [] ∷ []) ∷ [])
 
 pub record StackExamples : Type 0 where
-  pub no_lines : Holds [] empty_level (in_leaf no_leaf) [] 0 empty
-  pub lazy_line : Holds (codes "> a\nb\n") opened_level (in_quote opened_level (in_leaf (open_text (codes "a\nb")))) [] 0 empty
-  pub heading : Holds (codes "# a\n\n") (push_blank (block_closes opened_level (Heading 1 (Text (codes "a") ∷ [])))) (in_leaf no_leaf) (Leaf 1 ∷ Blank ∷ []) 1 empty
-  pub blank_lines_wait : Holds (codes "    a\n\n     \n") opened_level (in_leaf (open_code (codes "a\n") 1 (codes "\n \n") 2)) [] 0 empty
+  pub no_lines : Holds [] empty_level (in_leaf no_leaf) [] 0 []
+  pub lazy_line : Holds (codes "> a\nb\n") opened_level (in_quote opened_level (in_leaf (open_text (codes "a\nb")))) [] 0 []
+  pub heading : Holds (codes "# a\n\n") (push_blank (block_closes opened_level (Heading 1 (Text (codes "a") ∷ [])))) (in_leaf no_leaf) (Leaf 1 ∷ Blank ∷ []) 1 []
+  pub blank_lines_wait : Holds (codes "    a\n\n     \n") opened_level (in_leaf (open_code (codes "a\n") 1 (codes "\n \n") 2)) [] 0 []
   pub open_list : Holds (codes "- a\n- ") (record {
     blocks = [];
     open_list = Some (record { kind = Dash; loose = false; items = (text_paragraph (codes "a") ∷ []) ∷ [] });
     has_block = true;
     ends_blank = false;
     separated = false;
-  }) (in_item Dash 2 true empty_level (in_leaf no_leaf)) (Leaf 1 ∷ Marker ∷ []) 1 empty
+  }) (in_item Dash 2 true empty_level (in_leaf no_leaf)) (Leaf 1 ∷ Marker ∷ []) 1 []
   pub blank_line_before_an_item : Holds (codes "- a\n\n- b\n") (record {
     blocks = [];
     open_list = Some (record { kind = Dash; loose = true; items = (text_paragraph (codes "a") ∷ []) ∷ [] });
     has_block = true;
     ends_blank = false;
     separated = false;
-  }) (in_item Dash 2 false opened_level (in_leaf (open_text (codes "b")))) (Leaf 1 ∷ Blank ∷ []) 1 empty
+  }) (in_item Dash 2 false opened_level (in_leaf (open_text (codes "b")))) (Leaf 1 ∷ Blank ∷ []) 1 []
   pub blank_line_before_a_block : Holds (codes "1. a\n\n   b\n") (list_opens empty_level (Dot 1))
       (in_item (Dot 1) 3 false (record { blocks = text_paragraph (codes "a") ∷ []; open_list = None; has_block = true; ends_blank = false; separated = true }) (in_leaf (open_text (codes "b"))))
-      (Leaf 1 ∷ Blank ∷ []) 1 empty
-  pub blank_line_of_a_quote : Holds (codes "> a\n>\n") opened_level (in_quote (push_blank (block_closes opened_level (text_paragraph (codes "a")))) (in_leaf no_leaf)) (Leaf 1 ∷ Marker ∷ []) 1 empty
+      (Leaf 1 ∷ Blank ∷ []) 1 []
+  pub blank_line_of_a_quote : Holds (codes "> a\n>\n") opened_level (in_quote (push_blank (block_closes opened_level (text_paragraph (codes "a")))) (in_leaf no_leaf)) (Leaf 1 ∷ Marker ∷ []) 1 []
   pub definition_in_a_quote : Holds (codes "> [a]: /u\n\nb\n") behind_a_definition (in_leaf (open_text (codes "b"))) (Leaf 1 ∷ Blank ∷ []) 1 one_target
-  pub definition_still_open : Holds (codes "[a]: /u\n") opened_level (in_leaf (open_text (codes "[a]: /u"))) [] 0 empty
+  pub definition_still_open : Holds (codes "[a]: /u\n") opened_level (in_leaf (open_text (codes "[a]: /u"))) [] 0 []
   pub first_definition_counts : (close_stack (push_lines profile empty_stack (plain_lines_of (codes "[a]: /u\n\n> [A]: /v\n")))).definitions ≡ one_target
   pub containers : container_count (two_items_in_a_quote ∷ ListBlock (Dot 1) true ((text_paragraph (codes "c") ∷ []) ∷ []) ∷ text_paragraph (codes "d") ∷ []) ≡ 4
   pub depths : line_depths profile empty_stack (plain_lines_of (codes "> - a\nb\n\n# c\n")) ≡ 2 ∷ 2 ∷ 0 ∷ 0 ∷ []

@@ -1,12 +1,13 @@
 //! Closed leaf blocks, and how they are added to their level.
-ghost use Rattle.std.specs.Prelude.{◌≡◌, ◌+◌, ◌<◌, ◌≤◌, ◌^◌, [], suc, length, drop, IfOk, OnOk};
-ghost use Rattle.cm_block.specs.Prelude.{trim_end, definitions_of, leaf_block, definition, code, html};
+ghost use Rattle.std.specs.Prelude.{◌≡◌, ◌+◌, ◌<◌, ◌≤◌, ◌^◌, [], suc, length, drop, false, None, IfOk, OnOk};
+ghost use Rattle.cm_block.specs.Prelude.{trim_end, definitions_of, link_definition, leaf_block, definition};
+ghost use Rattle.cm_block.specs.Prelude.{code, html};
 ghost use Rattle.cm_block.specs.Prelude.{line_feeds, line_count, definition_leaves, content_leaf};
 ghost use Rattle.cm_block.specs.Level.{block_closes};
 ghost use Rattle.cm_block.specs.OpenLeaf.{run_leaves};
 ghost use Rattle.cm_block.specs.Stack.{close_leaves, own_leaf, own_leaves};
 ghost use Rattle.cm_block.specs.LeafViews.{ended};
-ghost use Rattle.cm_block.specs.steps.LeafSteps.{fence_lines, whole_leaves, own_plain_leaf};
+ghost use Rattle.cm_block.specs.steps.LeafSteps.{fence_lines, own_plain_leaf};
 
 use crate::leaf_block::LeafBlock;
 use crate::leaf_kind::LeafKind;
@@ -15,19 +16,10 @@ use crate::open_leaf::OpenLeaf;
 use crate::owners::Owners;
 use crate::stack::Stack;
 use crate::text_runs::line_feeds;
-use cm_scan::{LinkDefinition, definition, trim_end};
+use cm_scan::{LinkDefinition, definition, is_next, trim_end};
 use cm_text::unescape_or_lend;
 use cm_tree::RawFault;
 use std::alloc::Global;
-
-/// A leaf block of one line.
-#[derive(Debug, Drop)]
-pub(crate) enum WholeLeaf {
-    /// An ATX heading (4.2 ATX headings).
-    Heading { level: u8, content: String },
-    /// A thematic break (4.1 Thematic breaks).
-    Break,
-}
 
 /// The number of lines of a leaf with `feeds` line feeds in its text and `more` lines besides.
 fn count_lines(feeds: usize, more: usize) -> Result<usize, RawFault>
@@ -143,6 +135,14 @@ fn put_content(
     }
 }
 
+/// Whether a text may start with a definition. Mostly its first byte shows that it doesn't.
+#[inline(always)]
+fn may_define(text: &str) -> bool
+    ensures { result ≡ false → None ≡ link_definition text.now }
+{
+    is_next(text.as_bytes(), 0, b'[')
+}
+
 /// Adds the leaves of a run: the definitions at its start, and the rest.
 #[inline(always)]
 fn put_run(
@@ -158,13 +158,11 @@ fn put_run(
     ensures bare { stack.new.bare ≡ stack.old.bare }
     ensures owners { OnOk result (owners.new ≡ own_leaves owners.old (run_leaves heading source.now)) }
 {
-    let (left, feeds) = put_definitions(
-        alloc,
-        trim_end(source.as_str()),
-        source.feeds(),
-        stack,
-        owners,
-    )?;
+    let text = trim_end(source.as_str());
+    if !may_define(text) {
+        return put_content(text, source.feeds(), heading, stack, owners);
+    }
+    let (left, feeds) = put_definitions(alloc, text, source.feeds(), stack, owners)?;
     put_content(left, feeds, heading, stack, owners)
 }
 
@@ -238,40 +236,21 @@ impl OpenLeaf {
         owners: &mut Owners,
     ) -> Result<(), RawFault>
         ensures level { OnOk result (stack.new.level
-            ≡ close_leaves stack.old.level (leaves_with heading ended self.old.kind self.old.text)) }
+            ≡ close_leaves stack.old.level (leaves_with heading ended self.old)) }
         ensures frames { stack.new.frames ≡ stack.old.frames }
         ensures bare { stack.new.bare ≡ stack.old.bare }
         ensures owners { OnOk result (owners.new
-            ≡ own_leaves owners.old (leaves_with heading ended self.old.kind self.old.text)) }
+            ≡ own_leaves owners.old (leaves_with heading ended self.old)) }
     {
-        match &self.kind {
+        match self.kind {
             LeafKind::Nothing => Ok(()),
             LeafKind::Run => put_run(alloc, &self.text, heading, stack, owners),
-            LeafKind::Code { .. } => put_indented(&mut self.text, stack, owners),
-            LeafKind::Fence { info, .. } => {
+            LeafKind::Code => put_indented(&mut self.text, stack, owners),
+            LeafKind::Fence { .. } => {
                 let lines = fence_lines(ended, &self.text)?;
-                put_code(info, self.text.as_str(), lines, stack, owners)
+                put_code(&self.info, self.text.as_str(), lines, stack, owners)
             }
             LeafKind::Html { .. } => put_html(&mut self.text, stack, owners),
-        }
-    }
-}
-
-impl WholeLeaf {
-    /// Adds the leaf to the innermost level, and its line to the owners.
-    pub(crate) fn put(self, stack: &mut Stack, owners: &mut Owners) -> Result<(), RawFault>
-        ensures level { OnOk result (stack.new.level ≡ close_leaves stack.old.level (whole_leaves self)) }
-        ensures frames { stack.new.frames ≡ stack.old.frames }
-        ensures bare { stack.new.bare ≡ stack.old.bare }
-        ensures owners { OnOk result (owners.new ≡ own_leaves owners.old (whole_leaves self)) }
-    {
-        owners.leaf(1)?;
-        match self {
-            WholeLeaf::Heading { level, content } => stack.put(&LeafBlock::Heading {
-                level,
-                source: &content,
-            }),
-            WholeLeaf::Break => stack.put(&LeafBlock::Break),
         }
     }
 }

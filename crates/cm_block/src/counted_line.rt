@@ -5,7 +5,7 @@
 //! The count stops at the greatest number of its type. It is proved that the lines that fit in memory don't
 //! reach it.
 ghost use Rattle.std.specs.Prelude.{◌≡◌, ◌+◌, ◌++◌, ◌∷◌, ◌&&◌, ℕ};
-ghost use Rattle.std.specs.Prelude.{List, suc, true, false, string_bytes, IfOk, IfSome, IfNone, OnOk};
+ghost use Rattle.std.specs.Prelude.{List, [], suc, true, false, string_bytes, IfOk, IfSome, IfNone, OnOk};
 ghost use Rattle.cm_block.specs.Prelude.{strip_columns, seen_view, given, is_blank, with_ending};
 ghost use Rattle.cm_block.specs.Prelude.{is_html_end, kind_of, continuation_if_lazy, continuation_in_quote};
 ghost use Rattle.cm_block.specs.Prelude.{continuation_in_item, interrupts_paragraph, underline_of};
@@ -18,7 +18,8 @@ ghost use Rattle.cm_block.specs.steps.LineTests.{Tested};
 ghost use Rattle.cm_block.specs.steps.TextRuns.{add_lines};
 ghost use Rattle.cm_block.specs.steps.StartViews.{seen};
 ghost use Rattle.cm_block.specs.steps.ContinuationViews.{IsInside};
-ghost use Rattle.cm_block.specs.steps.FirstLines.{first_of, StaysClosed, begins_container};
+ghost use Rattle.cm_block.specs.steps.FirstLines.{first_of, is_whole, whole_leaves, opens_leaf};
+ghost use Rattle.cm_block.specs.Stack.{close_leaves, own_leaves};
 
 mod continuations;
 mod copies;
@@ -30,24 +31,27 @@ mod starts;
 
 use crate::leaf_text::LeafText;
 use crate::open_leaf::OpenLeaf;
+use crate::owners::Owners;
+use crate::stack::Stack;
 use cm_scan::{FenceKind, HtmlKind};
 use cm_text::{NoMemory, Rules, TextLines, View};
-use cm_tree::ListKind;
+use cm_tree::{ListKind, RawFault};
 use continuations::{ends_bare_item, if_lazy, is_blank, item_content, quote_content, with_columns};
 use copies::{add_text, push_next_line, push_whole_line, take_code_line};
 use ends::{closes_fence, ends_html};
 pub(crate) use first_line::FirstLine;
-use first_line::begin_leaf;
+use first_line::{begin_leaf, put_whole};
 use interruptions::{interrupts_paragraph, underline_of};
 pub(crate) use items::LineInItems;
-use items::inside_item;
-use starts::{Start, begins_with_letter, start_of};
+use items::{inside_item, plain_item};
+use starts::{Start, begins_as_text, begins_with_letter, start_of};
 use std::alloc::{AllocError, Global};
 
 /// The rest of a line inside the containers in which it stays, and how often it has been read.
 ///
 /// Nothing that shows the line leaves this type. Each of its calls is one reading: it counts one, and returns
-/// what was found, or copies the rest of the line. Only the call that consumes the line returns the count.
+/// what was found, or copies the rest of the line. `is_empty` counts none, because it reads no byte. Only the
+/// call that consumes the line returns the count.
 pub(crate) struct CountedLine<'a> {
     rest: View<'a>,
     tests: u64,
@@ -90,8 +94,9 @@ pub(crate) enum Begins<'a> {
 pub(crate) enum Look {
     /// It is blank.
     Blank,
-    /// It starts with a letter, without indentation: after a paragraph it continues that.
-    Letter,
+    /// It starts, without indentation, with a byte with which only text starts: after a paragraph it
+    /// continues that.
+    Text,
     /// Neither.
     Other,
 }
@@ -126,8 +131,16 @@ impl<'a> CountedLine<'a> {
         ensures line { result ≡ self.old.rest }
         ensures read { ReadOnce self.old self.new }
     {
-        self.tests = self.tests.saturating_add(1);
+        self.count();
         self.rest
+    }
+
+    /// Counts one reading.
+    #[inline(always)]
+    fn count(&mut self)
+        ensures { ReadOnce self.old self.new }
+    {
+        self.tests = self.tests.saturating_add(1);
     }
 
     /// The rest of the line, for one reading, which it counts. Its leading spaces are counted as columns.
@@ -216,6 +229,7 @@ impl<'a> CountedLine<'a> {
     /// Whether the line continues a paragraph without the markers of its containers. If so, it is marked as
     /// lazy. `open_text` says whether the lines so far leave a paragraph open (5.1 Block quotes, 5.2 List
     /// items).
+    #[inline(always)]
     pub(crate) fn goes_on_lazily(&mut self, rules: Rules, open_text: bool) -> bool
         ensures line { given result (seen_view self.new.rest)
             ≡ goes_inward (continuation_if_lazy rules (seen_view self.old.rest)) open_text }
@@ -236,11 +250,23 @@ impl<'a> CountedLine<'a> {
         ensures found { Found rules (seen_view self.old.rest) result (seen_view self.new.rest) }
         ensures tests { Tested 1 1 self.old.tests self.new.tests }
     {
-        let view = self.read_columns();
-        if begins_with_letter(&view) {
+        let whole = self.read();
+        if begins_with_letter(&whole) {
             return Begins::Leaf(LeafStart {
                 found: Start::TextLine,
             });
+        }
+        if whole.rest.is_empty() {
+            return Begins::Nothing;
+        }
+        let view = with_columns(&whole);
+        if let Some(item) = plain_item(&view) {
+            self.enter(item.inner);
+            return Begins::Item {
+                kind: item.kind,
+                column: item.column,
+                bare: false,
+            };
         }
         if is_blank(&view) {
             return Begins::Nothing;
@@ -262,6 +288,15 @@ impl<'a> CountedLine<'a> {
         }
     }
 
+    /// Whether nothing is left of the line, and it isn't marked as lazy. No byte is read.
+    #[inline(always)]
+    pub(crate) fn is_empty(&self) -> bool
+        ensures text { result ≡ true → (seen_view self.now.rest).text ≡ [] }
+        ensures plain { result ≡ true → self.now.rest.lazy ≡ false }
+    {
+        self.rest.rest.is_empty() && self.rest.spaces == 0 && !self.rest.lazy
+    }
+
     /// Whether the line is blank (2.1 Characters and lines).
     pub(crate) fn is_blank(&mut self) -> bool
         ensures blank { result ≡ is_blank (seen_view self.old.rest) }
@@ -278,10 +313,13 @@ impl<'a> CountedLine<'a> {
     {
         let view = self.read();
         if begins_with_letter(&view) {
-            return Look::Letter;
+            return Look::Text;
         }
         if is_blank(&view) {
             return Look::Blank;
+        }
+        if begins_as_text(&view) {
+            return Look::Text;
         }
         Look::Other
     }
@@ -321,6 +359,7 @@ impl<'a> CountedLine<'a> {
     }
 
     /// Appends the line to a run of text, without its leading spaces and tabs (4.8 Paragraphs).
+    #[inline(always)]
     pub(crate) fn add_text(&mut self, source: &mut LeafText) -> Result<(), AllocError>
         ensures text { OnOk result (source.new ≡ add_text source.old (seen_view self.old.rest)) }
         ensures read { ReadOnce self.old self.new }
@@ -369,8 +408,37 @@ impl<'a> CountedLine<'a> {
         push_next_line(text, &self.read())
     }
 
-    /// Opens the leaf block that was found to start with the line. A quote's or an item's marker opens none.
-    /// No leaf is open so far.
+    /// Adds the leaf block of one line that was found to start with the line, if it is one. Returns
+    /// whether it is. Otherwise the line isn't read.
+    #[inline(always)]
+    pub(crate) fn put_whole(
+        &mut self,
+        start: &LeafStart<'a>,
+        stack: &mut Stack,
+        owners: &mut Owners,
+    ) -> Result<bool, RawFault>
+        ensures put { IfOk result (λ put. put ≡ is_whole (seen start.now.found)) }
+        ensures level { OnOk result (stack.new.level
+            ≡ close_leaves stack.old.level (whole_leaves (seen start.now.found))) }
+        ensures frames { stack.new.frames ≡ stack.old.frames }
+        ensures bare { stack.new.bare ≡ stack.old.bare }
+        ensures owners { OnOk result (owners.new
+            ≡ own_leaves owners.old (whole_leaves (seen start.now.found))) }
+        ensures kept { IfOk result (λ put. put ≡ false → stack.new ≡ stack.old) }
+        ensures unowned { IfOk result (λ put. put ≡ false → owners.new ≡ owners.old) }
+        ensures same { self.new.rest ≡ self.old.rest }
+        ensures tests { Tested 0 1 self.old.tests self.new.tests }
+        ensures unread { IfOk result (λ put. put ≡ false → self.new.tests ≡ self.old.tests) }
+    {
+        if !put_whole(&start.found, stack, owners)? {
+            return Ok(false);
+        }
+        self.count();
+        Ok(true)
+    }
+
+    /// Opens the leaf block that was found to start with the line. A leaf of one line isn't opened, and
+    /// neither a quote's nor an item's marker opens one. No leaf is open so far.
     #[inline(always)]
     pub(crate) fn begin_leaf(
         &mut self,
@@ -382,9 +450,7 @@ impl<'a> CountedLine<'a> {
         requires { leaf_of leaf.old ≡ no_leaf }
         ensures leaf { IfOk result (λ first. IfSome first (λ f. begins_leaf (first_of f leaf.new)
             ≡ begin_of_start rules (seen start.now.found) (seen_view self.old.rest))) }
-        ensures closed { IfOk result (λ first. IfSome first (λ f. StaysClosed f leaf.new)) }
-        ensures container { IfOk result (λ first.
-            IfNone first (begins_container (seen start.now.found) ≡ true)) }
+        ensures other { IfOk result (λ first. IfNone first (opens_leaf (seen start.now.found) ≡ false)) }
         ensures read { ReadOnce self.old self.new }
     {
         begin_leaf(alloc, rules, leaf, start, &self.read())

@@ -62,6 +62,7 @@ impl LeafText {
     }
 
     /// Appends a part of a line.
+    #[inline(always)]
     pub(crate) fn push(&mut self, part: &str) -> Result<(), AllocError>
         requires { is_line part.now ≡ true }
         ensures { OnOk result (self.new ≡ self.old ++ part.now) }

@@ -7,6 +7,7 @@ ghost use Rattle.cm_block.specs.Level.{list_opens, item_opens, block_closes, ite
 ghost use Rattle.cm_block.specs.steps.LevelViews.{level_in, IsLevelPlaced};
 ghost use Rattle.cm_block.specs.steps.LevelSteps.{item_with, without_list, has_list_of, goes_on};
 
+use crate::room::Room;
 use cm_scan::is_same_kind;
 use cm_tree::{ListKind, RawBlock, RawBlocks, RawFault, RawItem};
 use std::alloc::Global;
@@ -31,14 +32,14 @@ pub(crate) struct Level {
 }
 
 impl Level {
-    /// An empty level, with memory for its blocks.
-    pub(crate) fn new(room: Vec<RawBlock>) -> Level
-        requires { room.items ≡ [] }
+    /// An empty level, with this empty list for its blocks.
+    pub(crate) fn new(blocks: Vec<RawBlock>) -> Level
+        requires { blocks.items ≡ [] }
         ensures level { (raw : Raw) → level_in raw result ≡ empty_level }
         ensures placed { (raw : Raw) → IsLevelPlaced raw result }
     {
         Level {
-            blocks: room,
+            blocks,
             open_list: None,
             has_block: false,
             ends_blank: false,
@@ -56,7 +57,7 @@ impl Level {
 
     /// Appends the list to the blocks, if there is one. Mostly there is none.
     #[inline(always)]
-    fn close_list(&mut self, raw: &mut RawBlocks) -> Result<(), RawFault>
+    fn close_list(&mut self, raw: &mut RawBlocks, room: &mut Room) -> Result<(), RawFault>
         requires { IsLevelPlaced raw.old self.old }
         ensures level { OnOk result (level_in raw.new self.new ≡ without_list (level_in raw.old self.old)) }
         ensures placed { IsLevelPlaced raw.new self.new }
@@ -65,12 +66,12 @@ impl Level {
         if self.open_list.is_none() {
             return Ok(());
         }
-        self.put_list(raw)
+        self.put_list(raw, room)
     }
 
     /// Appends the list to the blocks, if there is one.
     #[inline(never)]
-    fn put_list(&mut self, raw: &mut RawBlocks) -> Result<(), RawFault>
+    fn put_list(&mut self, raw: &mut RawBlocks, room: &mut Room) -> Result<(), RawFault>
         requires { IsLevelPlaced raw.old self.old }
         ensures level { OnOk result (level_in raw.new self.new ≡ without_list (level_in raw.old self.old)) }
         ensures placed { IsLevelPlaced raw.new self.new }
@@ -78,19 +79,24 @@ impl Level {
     {
         if let Some(list) = self.open_list.take() {
             let block = raw.list(list.kind, !list.loose, &list.items)?;
+            room.keep_items(list.items);
             self.blocks.push(block)?;
         }
         Ok(())
     }
 
     /// Opens a block that is no item.
-    pub(crate) fn open_block(&mut self, raw: &mut RawBlocks) -> Result<(), RawFault>
+    pub(crate) fn open_block(
+        &mut self,
+        raw: &mut RawBlocks,
+        room: &mut Room,
+    ) -> Result<(), RawFault>
         requires { IsLevelPlaced raw.old self.old }
         ensures level { OnOk result (level_in raw.new self.new ≡ block_opens (level_in raw.old self.old)) }
         ensures placed { IsLevelPlaced raw.new self.new }
         ensures grows { Grows raw.old raw.new }
     {
-        self.close_list(raw)?;
+        self.close_list(raw, room)?;
         self.separated = self.separated || self.has_block && self.ends_blank;
         self.ends_blank = false;
         Ok(())
@@ -136,6 +142,7 @@ impl Level {
         &mut self,
         alloc: Global,
         raw: &mut RawBlocks,
+        room: &mut Room,
         kind: ListKind,
     ) -> Result<(), RawFault>
         requires { IsLevelPlaced raw.old self.old }
@@ -144,11 +151,11 @@ impl Level {
         ensures placed { IsLevelPlaced raw.new self.new }
         ensures grows { Grows raw.old raw.new }
     {
-        self.open_block(raw)?;
+        self.open_block(raw, room)?;
         self.open_list = Some(OpenList {
             kind,
             loose: false,
-            items: Vec::new(alloc),
+            items: room.take_items(alloc),
         });
         self.has_block = true;
         Ok(())
@@ -159,6 +166,7 @@ impl Level {
         &mut self,
         alloc: Global,
         raw: &mut RawBlocks,
+        room: &mut Room,
         kind: ListKind,
     ) -> Result<(), RawFault>
         requires { IsLevelPlaced raw.old self.old }
@@ -171,7 +179,7 @@ impl Level {
             self.go_on();
             return Ok(());
         }
-        self.open_list(alloc, raw, kind)
+        self.open_list(alloc, raw, room, kind)
     }
 
     /// Appends an item that was opened to its list: its blocks, whether it ends with a blank line, and
@@ -197,14 +205,18 @@ impl Level {
     }
 
     /// The blocks.
-    pub(crate) fn into_blocks(mut self, raw: &mut RawBlocks) -> Result<Vec<RawBlock>, RawFault>
+    pub(crate) fn into_blocks(
+        mut self,
+        raw: &mut RawBlocks,
+        room: &mut Room,
+    ) -> Result<Vec<RawBlock>, RawFault>
         requires { IsLevelPlaced raw.old self }
         ensures blocks { IfOk result (λ blocks. blocks_in raw.new blocks.items
             ≡ closed_blocks (level_in raw.old self)) }
         ensures placed { IfOk result (λ blocks. ArePlaced raw.new blocks.items) }
         ensures grows { Grows raw.old raw.new }
     {
-        self.close_list(raw)?;
+        self.close_list(raw, room)?;
         Ok(self.blocks)
     }
 }

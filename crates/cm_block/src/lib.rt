@@ -21,7 +21,6 @@
 //! ```
 #![tactic(auto)]
 
-mod block_room;
 mod closed_leaf;
 mod containers;
 mod counted_line;
@@ -37,6 +36,7 @@ mod outline;
 mod owner_runs;
 mod owners;
 mod parser;
+mod room;
 mod stack;
 mod text_runs;
 

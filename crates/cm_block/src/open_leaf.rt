@@ -1,8 +1,7 @@
 //! The leaf block that is open, and what one more line does to it (chapter 4).
 //!
-//! Its text is a field of its own, not part of the kind of leaf: a text inside an enum is moved when the enum
-//! is made, and again when it is taken apart. The next leaf reuses the memory of a closed one, so most leaves
-//! allocate nothing.
+//! Its texts are fields of their own, so its kind owns nothing and is copied. The next leaf reuses the memory
+//! of a closed one, so most leaves allocate nothing.
 ghost use Rattle.std.specs.Prelude.{◌≡◌, ◌&&◌, []};
 ghost use Rattle.cm_block.specs.Prelude.{seen_view, is_blank, ends_at_blank_line, kind_of};
 ghost use Rattle.cm_block.specs.declared.leaf_kind.LeafKind.TheVariants.{Nothing};
@@ -17,11 +16,15 @@ use cm_text::Rules;
 use std::alloc::{AllocError, Global};
 
 /// The leaf block that is open. Its lines are counted by the line feeds of its texts. If no leaf is open, it
-/// keeps the memory of a text for the next one.
+/// keeps the memory of its text and blank lines for the next one.
 #[derive(Debug, Drop)]
 pub(crate) struct OpenLeaf {
     pub(crate) kind: LeafKind,
     pub(crate) text: LeafText,
+    /// Of indented code: the blank lines that wait for a further line of code, each with a line feed.
+    pub(crate) blank_lines: LeafText,
+    /// Of fenced code: its info string.
+    pub(crate) info: String,
     ghost empty: { kind ≡ Nothing → text ≡ [] },
 }
 
@@ -70,6 +73,8 @@ impl OpenLeaf {
         OpenLeaf {
             kind: LeafKind::Nothing,
             text: LeafText::new(alloc),
+            blank_lines: LeafText::new(alloc),
+            info: String::new(alloc),
         }
     }
 
@@ -109,8 +114,8 @@ impl OpenLeaf {
     pub(crate) fn blank_lines(&self) -> usize
         ensures { result ≡ blank_lines_behind (leaf_of self.now) }
     {
-        match &self.kind {
-            LeafKind::Code { blank_lines } => blank_lines.feeds(),
+        match self.kind {
+            LeafKind::Code => self.blank_lines.feeds(),
             _ => 0,
         }
     }
@@ -130,7 +135,7 @@ impl OpenLeaf {
         ensures lazy { IfOk result (λ taken. taken ≡ Leaves → line.old.rest.lazy ≡ true →
             line.new.tests ≤ line.old.tests + 1) }
     {
-        match &mut self.kind {
+        match self.kind {
             LeafKind::Nothing => Ok(LeafLine::Leaves),
             LeafKind::Run => match next_line(rules, self.text.as_str(), line) {
                 NextLine::GoesOn => {
@@ -143,27 +148,27 @@ impl OpenLeaf {
                     ended: false,
                 }),
             },
-            LeafKind::Code { blank_lines } => {
-                if line.add_code(&mut self.text, blank_lines)? {
+            LeafKind::Code => {
+                if line.add_code(&mut self.text, &mut self.blank_lines)? {
                     return Ok(LeafLine::Stays);
                 }
                 Ok(LeafLine::Leaves)
             }
-            LeafKind::Fence { kind, columns, .. } => {
-                if line.closes_fence(*kind) {
+            LeafKind::Fence { kind, columns } => {
+                if line.closes_fence(kind) {
                     return Ok(LeafLine::Last {
                         heading: None,
                         ended: true,
                     });
                 }
-                line.add_fenced(*columns, &mut self.text)?;
+                line.add_fenced(columns, &mut self.text)?;
                 Ok(LeafLine::Stays)
             }
             LeafKind::Html { kind } => {
-                if leaves_html(*kind, line) {
+                if leaves_html(kind, line) {
                     return Ok(LeafLine::Leaves);
                 }
-                let ends = line.ends_html(*kind);
+                let ends = line.ends_html(kind);
                 line.add_html(&mut self.text)?;
                 if ends {
                     return Ok(LeafLine::Last {

@@ -2,7 +2,6 @@
 //!
 //! A definition goes into the table when it goes into the tree, so finishing walks no tree.
 ghost use Rattle.std.specs.Prelude.{◌≡◌, ◌≤◌, ◌^◌, ◌++◌, [], ◌∷◌, suc, length, OnOk};
-ghost use Rattle.std.specs.FinMap as map;
 ghost use Rattle.cm_block.specs.Stack.{own_lines, own_blanks, blank_owner};
 ghost use Rattle.cm_block.specs.steps.LeafSteps.{own_plain_leaf, own_definition};
 
@@ -33,7 +32,7 @@ impl Model for Owners {
 impl Owners {
     /// No lines so far. It takes no memory.
     pub(crate) fn new(alloc: Global) -> Owners
-        ensures { result ≡ record { owners = []; leaves = 0; table = map.empty } }
+        ensures { result ≡ record { owners = []; leaves = 0; table = [] } }
     {
         Owners {
             runs: OwnerRuns::new(alloc),

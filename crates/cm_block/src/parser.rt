@@ -24,7 +24,7 @@ ghost use Rattle.cm_block.specs.Faults.{IsTooMuch};
 ghost use Rattle.cm_block.specs.Parser.{stack_of, is_in_text, HasTaken, TellsDepth, OutlineOf, TestsOf};
 ghost use Rattle.cm_block.specs.Tests.{count_of};
 ghost use Rattle.cm_block.specs.steps.LineTests.{Tested};
-ghost use Rattle.cm_block.specs.steps.ParserSteps.{Deep, TakenToLeaf};
+ghost use Rattle.cm_block.specs.steps.ParserSteps.{Deep, ends_at_blank, TakenToLeaf};
 
 use crate::containers::Innermost;
 use crate::counted_line::{CountedLine, CountedLines, FirstLine, LeafStart};
@@ -97,9 +97,9 @@ impl BlockParser {
     #[inline(always)]
     fn put_leaf(&mut self, heading: Option<u8>, ended: bool) -> Result<(), RawFault>
         ensures level { OnOk result (self.new.stack.level ≡ close_leaves self.old.stack.level
-            (leaves_with heading ended self.old.leaf.kind self.old.leaf.text)) }
+            (leaves_with heading ended self.old.leaf)) }
         ensures owners { OnOk result (self.new.owners ≡ own_leaves self.old.owners
-            (leaves_with heading ended self.old.leaf.kind self.old.leaf.text)) }
+            (leaves_with heading ended self.old.leaf)) }
         ensures leaf { OnOk result (leaf_of self.new.leaf ≡ no_leaf) }
         ensures frames { self.new.stack.frames ≡ self.old.stack.frames }
         ensures bare { self.new.stack.bare ≡ self.old.stack.bare }
@@ -152,6 +152,7 @@ impl BlockParser {
         ensures pushed { OnOk result (stack_of self.new ≡ with_blank self.old.stack self.old.owners) }
         ensures frames { self.new.stack.frames ≡ self.old.stack.frames }
         ensures limits { self.new.limits ≡ self.old.limits }
+        ensures counted { self.new.tests ≡ self.old.tests }
         ensures fault { self.new.fault ≡ self.old.fault }
     {
         let marked = self.stack.is_bare() || self.stack.is_quoted();
@@ -163,10 +164,10 @@ impl BlockParser {
     }
 
     /// Opens a leaf block in the innermost container with its first line.
-    fn open_leaf(
+    fn open_leaf<'a>(
         &mut self,
-        start: &LeafStart<'_>,
-        line: &mut CountedLine<'_>,
+        start: &LeafStart<'a>,
+        line: &mut CountedLine<'a>,
     ) -> Result<(), RawFault>
         requires plain { self.old.stack.bare ≡ false }
         requires leaf { leaf_of self.old.leaf ≡ no_leaf }
@@ -176,14 +177,17 @@ impl BlockParser {
         ensures tests { OnOk result (Tested 0 1 line.old.tests line.new.tests) }
         ensures frames { self.new.stack.frames ≡ self.old.stack.frames }
         ensures limits { self.new.limits ≡ self.old.limits }
+        ensures counted { self.new.tests ≡ self.old.tests }
         ensures fault { self.new.fault ≡ self.old.fault }
     {
         self.stack.open_block()?;
+        if line.put_whole(start, &mut self.stack, &mut self.owners)? {
+            return Ok(());
+        }
         let rules = self.limits.rules();
         match line.begin_leaf(self.alloc, rules, &mut self.leaf, start)? {
             Some(FirstLine::Opens) => Ok(()),
             Some(FirstLine::Ends) => self.put_leaf(None, false),
-            Some(FirstLine::Whole(leaf)) => leaf.put(&mut self.stack, &mut self.owners),
             None => Ok(()),
         }
     }
@@ -202,6 +206,7 @@ impl BlockParser {
             (begun_by self.old.limits.rules self.old.stack
             (seen_view line.old.rest) self.old.owners) self.old.owners) }
         ensures limits { self.new.limits ≡ self.old.limits }
+        ensures counted { self.new.tests ≡ self.old.tests }
         ensures fault { self.new.fault ≡ self.old.fault }
     {
         let innermost = self.stack.open_containers(
@@ -233,6 +238,7 @@ impl BlockParser {
         ensures unread { depth < length self.old.stack.frames → line.new.tests ≡ line.old.tests }
         ensures frames { self.new.stack.frames ≡ self.old.stack.frames }
         ensures limits { self.new.limits ≡ self.old.limits }
+        ensures counted { self.new.tests ≡ self.old.tests }
         ensures fault { self.new.fault ≡ self.old.fault }
     {
         if depth < self.stack.depth() {
@@ -244,6 +250,18 @@ impl BlockParser {
             LeafLine::Leaves => return Ok(false),
         }
         Ok(true)
+    }
+
+    /// Whether an empty line stays in each open container, and belongs to no open leaf.
+    #[inline(always)]
+    fn stays_at_empty_line(&self) -> bool
+        ensures quote { result ≡ true → quoted_by false self.now.stack.frames ≡ false }
+        ensures bare { result ≡ true → self.now.stack.bare ≡ false }
+        ensures leaf { result ≡ true → ends_at_blank (leaf_of self.now.leaf) ≡ true }
+    {
+        !self.stack.is_quoted()
+            && !self.stack.is_bare()
+            && matches!(self.leaf.kind, LeafKind::Nothing | LeafKind::Run)
     }
 
     /// Reads one more line.
@@ -259,8 +277,13 @@ impl BlockParser {
         ensures deep { IfErr result (λ fault.
             Deep fault self.old.limits (stack_of self.old) (seen_view line.old.rest)) }
         ensures limits { self.new.limits ≡ self.old.limits }
+        ensures counted { self.new.tests ≡ self.old.tests }
         ensures fault { self.new.fault ≡ self.old.fault }
     {
+        if line.is_empty() && self.stays_at_empty_line() {
+            self.close_leaf()?;
+            return Ok(self.push_blank()?);
+        }
         let depth = self
             .stack
             .matching(self.limits.rules(), line, self.leaf.is_run());
@@ -299,6 +322,7 @@ impl BlockParser {
     /// `BlocksTooDeep` on the first line inside more quotes and items than the limit, `NoMemory` if a request
     /// for memory was refused, `TooLarge` if a place would need more than 32 bits; the same fault from then
     /// on.
+    #[inline(always)]
     pub fn line_view(&mut self, line: &View<'_>) -> Result<(), BlockFault>
         ensures stands { OnOk result ((lines : List LineView) → HasTaken self.old lines
             → HasTaken self.new (lines ++ seen_view line.now ∷ [])) }
@@ -313,10 +337,9 @@ impl BlockParser {
         }
         // The range of the limit, which bounds how often the line is read.
         let _limit = self.limits.blocks();
-        let before = self.tests;
         let mut line = CountedLine::new(*line);
         let result = self.accept(&mut line);
-        self.tests = before.saturating_add(u128::from(line.into_tests()));
+        self.tests = self.tests.saturating_add(u128::from(line.into_tests()));
         if let Err(fault) = result {
             self.fault = Some(fault);
         }

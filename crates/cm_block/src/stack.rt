@@ -22,10 +22,10 @@ ghost use Rattle.cm_block.specs.steps.ContinuationViews.{IsInside, stays};
 ghost use Rattle.cm_block.specs.declared.stack.Stays.TheVariants.{Inside, Lazily, Leaves};
 ghost use Rattle.cm_block.specs.steps.FrameViews.{container_of, frames_in, AreFramesPlaced};
 
-use crate::block_room::BlockRoom;
 use crate::counted_line::{CountedLine, LineInItems};
 use crate::leaf_block::LeafBlock;
 use crate::level::Level;
+use crate::room::Room;
 use cm_text::Rules;
 use cm_tree::{Items, ListKind, RawBlock, RawBlocks, RawChunk, RawFault, RawTree};
 use std::alloc::{AllocError, Global};
@@ -226,6 +226,9 @@ fn matching(
     ensures plain { line.new.rest.lazy ≡ false → length frames.now ≤ result →
         line.new.tests ≤ line.old.tests + result }
 {
+    if frames.is_empty() {
+        return 0;
+    }
     let first = enter_items(frames, bare, line);
     if first.leaves {
         return if line.goes_on_lazily(rules, open_text) {
@@ -270,8 +273,8 @@ pub(crate) struct Stack {
     bare: bool,
     level: Level,
     raw: RawBlocks,
-    /// Memory for the blocks of the next container.
-    room: BlockRoom,
+    /// Memory for the next containers and lists.
+    room: Room,
 }
 
 impl Model for Stack {
@@ -310,7 +313,7 @@ impl Stack {
             bare: false,
             level: Level::new(Vec::new(alloc)),
             raw: RawBlocks::new(alloc),
-            room: BlockRoom::new(alloc),
+            room: Room::new(alloc),
         }
     }
 
@@ -345,7 +348,7 @@ impl Stack {
         ensures level { OnOk result (self.new.level ≡ empty_level) }
         ensures bare { self.new.bare ≡ self.old.bare }
     {
-        let inside = Level::new(self.room.take(alloc));
+        let inside = Level::new(self.room.take_blocks(alloc));
         let level = mem::replace(&mut self.level, inside);
         self.frames.push(Frame { level, container })?;
         Ok(())
@@ -358,7 +361,7 @@ impl Stack {
         ensures level { OnOk result (self.new.level ≡ empty_level) }
         ensures bare { self.new.bare ≡ self.old.bare }
     {
-        self.level.open_block(&mut self.raw)?;
+        self.level.open_block(&mut self.raw, &mut self.room)?;
         self.finish_chunk()?;
         self.open(alloc, Container::Quote)
     }
@@ -389,7 +392,8 @@ impl Stack {
         ensures bare { self.new.bare ≡ self.old.bare }
     {
         self.begin_list(kind)?;
-        self.level.open_item(alloc, &mut self.raw, kind)?;
+        self.level
+            .open_item(alloc, &mut self.raw, &mut self.room, kind)?;
         self.open(alloc, Container::Item { kind, column })
     }
 
@@ -407,23 +411,39 @@ impl Stack {
         let inside = mem::replace(&mut self.level, level);
         match container {
             Container::Quote => {
-                let blocks = inside.into_blocks(&mut self.raw)?;
+                let blocks = inside.into_blocks(&mut self.raw, &mut self.room)?;
                 let quote = self.raw.quote(&blocks)?;
-                self.room.keep(blocks);
+                self.room.keep_blocks(blocks);
                 self.level.close_block(quote)
             }
             Container::Item { .. } => {
                 let (ends_blank, separated) = (inside.ends_blank, inside.separated);
-                let blocks = inside.into_blocks(&mut self.raw)?;
+                let blocks = inside.into_blocks(&mut self.raw, &mut self.room)?;
                 let item = self.raw.item(&blocks)?;
-                self.room.keep(blocks);
+                self.room.keep_blocks(blocks);
                 self.level.close_item(item, ends_blank, separated)
             }
         }
     }
 
-    /// Closes the containers from the inside out until `depth` are open.
+    /// Closes the containers from the inside out until `depth` are open. Mostly there are no more.
+    #[inline(always)]
     pub(crate) fn close_to(&mut self, depth: usize) -> Result<(), RawFault>
+        requires { depth ≤ length self.old.frames }
+        ensures frames { OnOk result (self.new.frames ≡ take depth self.old.frames) }
+        ensures level { OnOk result (self.new.level
+            ≡ close_frames (drop depth self.old.frames) self.old.level) }
+        ensures bare { self.new.bare ≡ self.old.bare }
+    {
+        if self.depth() == depth {
+            return Ok(());
+        }
+        self.close_behind(depth)
+    }
+
+    /// Closes the containers after the first `depth`, from the inside out.
+    #[inline(never)]
+    fn close_behind(&mut self, depth: usize) -> Result<(), RawFault>
         requires { depth ≤ length self.old.frames }
         ensures frames { OnOk result (self.new.frames ≡ take depth self.old.frames) }
         ensures level { OnOk result (self.new.level
@@ -474,7 +494,7 @@ impl Stack {
         ensures frames { self.new.frames ≡ self.old.frames }
         ensures bare { self.new.bare ≡ self.old.bare }
     {
-        self.level.open_block(&mut self.raw)?;
+        self.level.open_block(&mut self.raw, &mut self.room)?;
         self.finish_chunk()?;
         Ok(())
     }
@@ -523,9 +543,10 @@ impl Stack {
             mut chunks,
             level,
             mut raw,
+            mut room,
             ..
         } = self;
-        let blocks = level.into_blocks(&mut raw)?;
+        let blocks = level.into_blocks(&mut raw, &mut room)?;
         chunks.push(RawChunk::new(blocks, raw))?;
         Ok(chunks)
     }

@@ -73,7 +73,7 @@ pub(crate) fn next_line(rules: Rules, source: &str, line: &mut CountedLine<'_>) 
 {
     match line.look() {
         Look::Blank => return NextLine::Ends,
-        Look::Letter => return NextLine::GoesOn,
+        Look::Text => return NextLine::GoesOn,
         Look::Other => {}
     }
     if let Some(level) = heading_level(source, line) {

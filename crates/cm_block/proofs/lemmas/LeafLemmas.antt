@@ -1,9 +1,10 @@
 -- The open leaf as the code has it: what one more line does to it.
-use Rattle.std.proofs.Common.{◌≡◌, ℕ, zero, suc, ◌+◌, ◌<◌, ◌≤◌, Bool, true, false, List, [], ◌∷◌, ◌++◌, replicate, Option, Some, None, refl, sym, ap, ap₂, ◌∙◌, arith}
+use Rattle.std.proofs.Common.{◌≡◌, ℕ, zero, suc, ◌+◌, ◌<◌, ◌≤◌, Bool, true, false, List, [], ◌∷◌, ◌++◌, replicate, Option, Some, None, string_bytes, refl, sym, ap, ap₂, ◌∙◌, arith}
 use Rattle.std.specs.Prelude.{nat_le, ◌&&◌}
-use Rattle.std.specs.Option.{is_some}
+use Rattle.std.specs.Option.{is_some, option_map, unwrap_or}
 use Rattle.std.proofs.lemmas.List.{append_assoc}
 use Rattle.std.proofs.lemmas.Bool.Decides.{nat_tests}
+use Rattle.cm_tree.specs.declared.tree.Block.{Block}
 use Rattle.cm_text.specs.Rules.{Rules}
 use Rattle.cm_text.specs.Lines.{LineView}
 use Rattle.cm_text.specs.Indentation.{indent_of, strip_columns}
@@ -11,15 +12,19 @@ use Rattle.cm_scan.specs.Words.{given, is_at_word, holds_word}
 use Rattle.cm_scan.specs.blocks.Lines.{is_blank, with_ending}
 use Rattle.cm_scan.specs.blocks.HtmlBlocks.{HtmlKind, RawText, Comment, Instruction, Declaration, CharacterData, BlockTag, AnyTag, is_html_end, ends_at_blank_line}
 use Rattle.cm_scan.specs.blocks.LineForms.{Fence}
-use Rattle.cm_scan.specs.blocks.Starts.{IndentedCode, OpeningFence, HtmlStart}
-use Rattle.cm_scan.specs.blocks.Parts.{html, info_of}
+use Rattle.cm_scan.specs.blocks.Starts.{Start, IndentedCode, QuoteMarker, AtxHeading, OpeningFence, HtmlStart, BreakLine, ItemStart, TextLine}
+use Rattle.cm_scan.specs.blocks.Parts.{LeafPart, html, leaf_block, info_of}
 use Rattle.cm_scan.specs.blocks.Blocks.{line_feeds, NextLine, next_line, closes_fence, code_line}
 use Rattle.cm_block.proofs.lemmas.FeedLemmas.{feeds_append, feeds_ended}
+use Rattle.cm_block.specs.declared.open_leaf.OpenLeaf.{OpenLeaf}
 use Rattle.cm_block.specs.declared.leaf_kind.LeafKind.{LeafKind}
 use Rattle.cm_block.specs.declared.leaf_kind.LeafKind.TheVariants as leaf
 use Rattle.cm_block.specs.OpenLeaf.{no_leaf, open_text, open_code, open_fence, open_html, closed_leaves, LeafLine, stays_open, is_last, begins_leaf, begin_of_start, line_of_text, line_of_code, line_of_fence, line_of_html, line_of_leaf}
-use Rattle.cm_block.specs.LeafViews.{ended, code_of, leaf_with}
-use Rattle.cm_block.specs.steps.LeafSteps.{leaves_with}
+use Rattle.cm_block.specs.Level.{Level, block_closes}
+use Rattle.cm_block.specs.Stack.{Owned, close_leaves, own_leaves}
+use Rattle.cm_block.specs.LeafViews.{ended, code_of, leaf_with, leaf_of}
+use Rattle.cm_block.specs.steps.LeafSteps.{leaves_of_kind, leaves_with, own_plain_leaf}
+use Rattle.cm_block.specs.steps.FirstLines.{whole_leaf, is_whole, of_one_line, whole_leaves}
 
 -- spaces before a line don't matter to the end of an HTML block
 
@@ -47,22 +52,39 @@ html_ends kind n text read end e = ap is_some e ∙ some-given (is_html_end kind
 
 -- by which kind it is open
 
-pub is_nothing : (kind : LeafKind) (text : List ℕ) → leaf_with kind text ≡ no_leaf → kind ≡ leaf.Nothing
-is_nothing leaf.Nothing text h = refl
-is_nothing leaf.Run text h = absurd (cc (h))
-is_nothing (leaf.Code blank_lines) text h = absurd (cc (h))
-is_nothing (leaf.Fence kind info columns) text h = absurd (cc (h))
-is_nothing (leaf.Html kind) text h = absurd (cc (h))
+pub is_nothing : (kind : LeafKind) (text blanks info : List ℕ) → leaf_with kind text blanks info ≡ no_leaf → kind ≡ leaf.Nothing
+is_nothing leaf.Nothing text blanks info h = refl
+is_nothing leaf.Run text blanks info h = absurd (cc (h))
+is_nothing leaf.Code text blanks info h = absurd (cc (h))
+is_nothing (leaf.Fence kind columns) text blanks info h = absurd (cc (h))
+is_nothing (leaf.Html kind) text blanks info h = absurd (cc (h))
+
+pub nothing_open : (now : OpenLeaf) → now.kind ≡ leaf.Nothing → leaf_of now ≡ no_leaf
+nothing_open now e = ap (λ k. leaf_with k now.text now.blank_lines (string_bytes now.info)) e
+
+pub no_text : (now : OpenLeaf) → leaf_of now ≡ no_leaf → now.text ≡ []
+no_text now h = now.empty (is_nothing now.kind now.text now.blank_lines (string_bytes now.info) h)
+
+pub line_by_kind : (rules : Rules) (now : OpenLeaf) (kind : LeafKind) (line : LineView) → now.kind ≡ kind
+    → line_of_leaf rules (leaf_with kind now.text now.blank_lines (string_bytes now.info)) line ≡ line_of_leaf rules (leaf_of now) line
+line_by_kind rules now kind line e = ap (λ k. line_of_leaf rules (leaf_with k now.text now.blank_lines (string_bytes now.info)) line) (sym e)
+
+pub leaves_by_kind : (level : Option ℕ) (has_end : Bool) (now : OpenLeaf) (kind : LeafKind) → now.kind ≡ kind
+    → leaves_of_kind level has_end kind now.text (string_bytes now.info) ≡ leaves_with level has_end now
+leaves_by_kind level has_end now kind e = ap (λ k. leaves_of_kind level has_end k now.text (string_bytes now.info)) (sym e)
 
 -- closing
 
-pub closes : (kind : LeafKind) (text : List ℕ) → leaves_with None false kind text ≡ closed_leaves (leaf_with kind text)
+closes-kind : (kind : LeafKind) (text blanks info : List ℕ) → leaves_of_kind None false kind text info ≡ closed_leaves (leaf_with kind text blanks info)
 unfolding closed_leaves
-closes leaf.Nothing text = refl
-closes leaf.Run text = refl
-closes (leaf.Code blank_lines) text = refl
-closes (leaf.Fence kind info columns) text = refl
-closes (leaf.Html kind) text = refl
+closes-kind leaf.Nothing text blanks info = refl
+closes-kind leaf.Run text blanks info = refl
+closes-kind leaf.Code text blanks info = refl
+closes-kind (leaf.Fence kind columns) text blanks info = refl
+closes-kind (leaf.Html kind) text blanks info = refl
+
+pub closes : (now : OpenLeaf) → leaves_with None false now ≡ closed_leaves (leaf_of now)
+closes now = closes-kind now.kind now.text now.blank_lines (string_bytes now.info)
 
 -- a line after indented code
 
@@ -142,6 +164,55 @@ pub html_begins : (rules : Rules) (kind : HtmlKind) (text : List ℕ) (line : Li
     → begins_leaf (stays_open (open_html kind (ended text) (suc (line_feeds text)))) ≡ begin_of_start rules (HtmlStart kind) line
 html_begins rules kind text line e feeds ends =
     ap₂ (λ t n. begins_leaf (stays_open (open_html kind t n))) (ap ended e) (ap suc feeds) ∙ ap (λ b. begins_leaf (line_of_html kind [] 0 line b)) ends
+
+-- a line that is a leaf by itself
+
+pub whole_begins : (rules : Rules) (start : Start) (line : LineView) → is_whole start ≡ true → begins_leaf (is_last (whole_leaves start)) ≡ begin_of_start rules start line
+whole_begins rules (AtxHeading h) line is = refl
+whole_begins rules BreakLine line is = refl
+whole_begins rules IndentedCode line is = absurd (cc (is))
+whole_begins rules QuoteMarker line is = absurd (cc (is))
+whole_begins rules (OpeningFence fence) line is = absurd (cc (is))
+whole_begins rules (HtmlStart kind) line is = absurd (cc (is))
+whole_begins rules (ItemStart marker) line is = absurd (cc (is))
+whole_begins rules TextLine line is = absurd (cc (is))
+
+pub none_whole : (start : Start) → None ≡ option_map leaf_block (whole_leaf start) → whole_leaf start ≡ None
+none_whole start none = go (whole_leaf start) none
+  where
+    go : (x : Option LeafPart) → None ≡ option_map leaf_block x → x ≡ None
+    go None e = refl
+    go (Some x) e = absurd (cc (e))
+
+module _ (start : Start) (block : Block) (is : Some block ≡ option_map leaf_block (whole_leaf start)) where
+  pub some_whole : true ≡ is_whole start
+  some_whole = ap is_some is ∙ go (whole_leaf start)
+    where
+      go : (x : Option LeafPart) → is_some (option_map leaf_block x) ≡ is_some x
+      go None = refl
+      go (Some x) = refl
+
+  pub whole_closes : (v : Level) → block_closes v block ≡ close_leaves v (whole_leaves start)
+  unfolding close_leaves
+  whole_closes v = go (whole_leaf start) is
+    where
+      go : (x : Option LeafPart) → Some block ≡ option_map leaf_block x → block_closes v block ≡ close_leaves v (of_one_line x)
+      go None e = absurd (cc (e))
+      go (Some x) e = ap (λ o. block_closes v (unwrap_or o block)) e
+
+  pub whole_owns : (s : Owned) → own_plain_leaf s 1 ≡ own_leaves s (whole_leaves start)
+  unfolding own_leaves
+  whole_owns s = go start is
+    where
+      go : (t : Start) → Some block ≡ option_map leaf_block (whole_leaf t) → own_plain_leaf s 1 ≡ own_leaves s (whole_leaves t)
+      go (AtxHeading h) e = refl
+      go BreakLine e = refl
+      go IndentedCode e = absurd (cc (e))
+      go QuoteMarker e = absurd (cc (e))
+      go (OpeningFence fence) e = absurd (cc (e))
+      go (HtmlStart kind) e = absurd (cc (e))
+      go (ItemStart marker) e = absurd (cc (e))
+      go TextLine e = absurd (cc (e))
 
 pub html_whole : (rules : Rules) (kind : HtmlKind) (text : List ℕ) (line : LineView) → text ≡ line.text → line_feeds text ≡ 0 → true ≡ is_html_end kind line.text
     → begins_leaf (is_last ((html (ended text), suc (line_feeds text)) ∷ [])) ≡ begin_of_start rules (HtmlStart kind) line

@@ -9,7 +9,7 @@ use Rattle.cm_text.specs.LineText.{tabs}
 use Rattle.cm_text.specs.Indentation.{indent_of}
 use Rattle.cm_scan.specs.Words.{begins_with, is_digit, front_of, skip, is_at_gap, given, ◌<|>◌}
 use Rattle.cm_scan.specs.blocks.Lines.{content_of}
-use Rattle.cm_scan.specs.blocks.LineForms.{Heading, Fence, ItemMarker, is_thematic_break, atx_heading, opening_fence, bullet_kind, ordered_kind, marker_at_gap, bullet_marker, decimal_value, is_number, marker_behind, ordered_marker, item_marker}
+use Rattle.cm_scan.specs.blocks.LineForms.{most_digits, Heading, Fence, ItemMarker, is_thematic_break, atx_heading, opening_fence, bullet_kind, ordered_kind, marker_at_gap, bullet_marker, decimal_value, is_number, marker_behind, ordered_marker, item_marker}
 use Rattle.cm_tree.specs.declared.tree.ListKind.{ListKind}
 use Rattle.cm_scan.specs.blocks.HtmlBlocks.{HtmlKind, html_start}
 use Rattle.cm_scan.specs.blocks.Starts.{Start, QuoteMarker, ItemStart, start_of_content, start_by, start_of}
@@ -18,7 +18,7 @@ use Rattle.cm_block.proofs.lemmas.StartLemmas.{first}
 
 -- a marker at the start of a text
 pub record Marked (text : List ℕ) (marker : ItemMarker) : Type 0 where
-  pub few : marker.digits ≤ 9
+  pub few : marker.digits ≤ most_digits
   pub within : suc marker.digits ≤ length text
   pub plain : tabs (take (suc marker.digits) text) ≡ 0
   pub gap : is_at_gap (drop (suc marker.digits) text) ≡ true
@@ -64,7 +64,7 @@ length-behind [] cs c = omega arith
 length-behind (d ∷ ds) cs c = omega (arith, length-behind ds cs c)
 
 -- a number of bytes, and a byte after them
-of-width : (ds cs : List ℕ) (c : ℕ) (m : ItemMarker) → m.digits ≡ length ds → length ds ≤ 9 → tabs (ds ++ c ∷ []) ≡ 0 → is_at_gap cs ≡ true → Marked (ds ++ c ∷ cs) m
+of-width : (ds cs : List ℕ) (c : ℕ) (m : ItemMarker) → m.digits ≡ length ds → length ds ≤ most_digits → tabs (ds ++ c ∷ []) ≡ 0 → is_at_gap cs ≡ true → Marked (ds ++ c ∷ cs) m
 of-width ds cs c m width few plain gap = record {
   few = omega (arith, width, few);
   within = omega (arith, width, length-behind ds cs c);
@@ -78,7 +78,7 @@ one-plain b h = grind (arith, h)
 kind-plain : (n c digits : ℕ) (behind : List ℕ) (m : ItemMarker) → marker_at_gap (ordered_kind n c) digits behind ≡ Some m → (c == 9) ≡ false
 kind-plain n c digits behind m e = grind (arith, e)
 
-number-few : (ds : List ℕ) → is_number ds ≡ true → length ds ≤ 9
+number-few : (ds : List ℕ) → is_number ds ≡ true → length ds ≤ most_digits
 number-few ds e = grind (arith, e)
 
 ordered-marked : (text rest : List ℕ) (m : ItemMarker) → skip is_digit text ≡ rest → marker_behind (front_of is_digit text) rest ≡ Some m → Marked text m

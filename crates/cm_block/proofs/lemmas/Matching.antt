@@ -15,7 +15,8 @@ use Rattle.cm_tree.specs.declared.tree.ListKind.{ListKind}
 use Rattle.cm_block.specs.steps.FrameViews.{container_of, frame_in, frames_in}
 use Rattle.cm_block.specs.Level.{Level}
 use Rattle.cm_block.proofs.lemmas.Lazy.{starts_text, continuation-quote, continuation-item}
-use Rattle.std.proofs.lemmas.List.{length_push}
+use Rattle.std.proofs.lemmas.Bool.{eqb-true}
+use Rattle.std.proofs.lemmas.List.{length_push, take_all, drop_all}
 use Rattle.cm_block.specs.Frames.{Container, a_quote, an_item, Frame, Row, is_last}
 use Rattle.cm_block.specs.steps.FrameSteps.{continuation_in, inward, matching, behind, LeavesNext, quoted_in, quoted_by, close_container, close_frames}
 
@@ -307,3 +308,14 @@ module _ (rules : Rules) (open_text : Bool) (raw : Raw) (frames : List code.Fram
   none_lazily leaves =
       sym (match_stop rules false open_text i next.0 (drop (suc i) (frames_in raw frames)) line (drop i (frames_in raw frames)) false next.1.0 refl
       (leaves ∙ ap (λ p. goes_inward p open_text) (sym (next.1.1 rules))))
+
+-- all containers stay open
+pub all_stay : (n : ℕ) (fs : List Frame) (v : Level) → n ≡ length fs → (fs ≡ take n fs) × (v ≡ close_frames (drop n fs) v)
+unfolding close_frames
+all_stay n fs v is = (sym (take_all n fs (omega (arith, is))), ap (λ gs. close_frames gs v) (sym (drop_all n fs (omega (arith, is)))))
+
+-- none is open
+pub none_open : (rules : Rules) (bare run : Bool) (raw : Raw) (frames : List code.Frame) (line : LineView) → (length frames == 0) ≡ true → (0, line) ≡ matching rules bare run (frames_in raw frames) line
+unfolding matching
+none_open rules bare run raw [] line e = refl
+none_open rules bare run raw (f ∷ fs) line e = absurd (omega (arith, eqb-true (length (f ∷ fs)) 0 e))

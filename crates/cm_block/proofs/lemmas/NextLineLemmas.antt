@@ -18,7 +18,8 @@ use Rattle.cm_scan.specs.blocks.Blocks.{rest_of, NextLine, GoesOn, Ends, Underli
 use Rattle.std.specs.List.{slice_range}
 use Rattle.cm_scan.proofs.lemmas.blocks.WordsInAnyCase.{slice_from}
 use Rattle.cm_block.specs.steps.LeafSteps.{level_above, heading_level}
-use Rattle.cm_block.proofs.lemmas.StartLemmas.{at_letter, starts_lazy, letter_starts, letter_underlines}
+use Rattle.cm_block.proofs.lemmas.StartLemmas.{at_letter, starts_lazy, letter_starts, text_shows, text_starts, text_underlines}
+use Rattle.cm_block.specs.steps.StartViews.{is_at_text}
 
 -- an underline
 
@@ -118,7 +119,7 @@ drop-one (suc n) (b ∷ bs) = drop-one n bs
 pub behind_first : (text part : List ℕ) (n : ℕ) → part ≡ slice_range text n (length text) → take (length part - 1) (drop 1 part) ≡ drop (suc n) text
 behind_first text part n e = slice_from 1 part ∙ ap (drop 1) (e ∙ slice_from n text) ∙ drop-one n text
 
--- a line that starts with a letter continues any run
+-- a line that starts as text continues any run
 
 next-plain : (rules : Rules) (source : List ℕ) (line : LineView) → is_blank line ≡ false → underline_of line ≡ None → interrupts_paragraph rules line ≡ false
     → GoesOn ≡ next_line rules source line
@@ -141,15 +142,15 @@ letter_text rules view letter = go view.lazy refl
     go true lazy = sym (starts_lazy rules (seen_view view) lazy)
     go false eager = letter_starts rules view eager letter
 
-pub letter_goes_on : (view : View) → ((view.spaces == 0) && is_at_letter view.rest.now) ≡ true → (rules : Rules) (source : List ℕ)
+pub text_goes_on : (view : View) → ((view.spaces == 0) && is_at_text view.rest.now) ≡ true → (rules : Rules) (source : List ℕ)
     → GoesOn ≡ next_line rules source (seen_view view)
-letter_goes_on view letter rules source = go view.lazy refl
+text_goes_on view text rules source = go view.lazy refl
   where
     line : LineView
     line = seen_view view
 
     go : (lazy : Bool) → view.lazy ≡ lazy → GoesOn ≡ next_line rules source line
-    go true lazy = next-plain rules source line (letter_shows view letter) (sym (underline_lazy line lazy)) (lazy_interrupts rules line lazy)
+    go true lazy = next-plain rules source line (text_shows view text) (sym (underline_lazy line lazy)) (lazy_interrupts rules line lazy)
     go false eager =
-        next-plain rules source line (letter_shows view letter) (letter_underlines view eager letter)
-        (sym (interrupts rules TextLine line false (sym (letter_text rules view letter)) refl))
+        next-plain rules source line (text_shows view text) (text_underlines view text eager)
+        (sym (interrupts rules TextLine line false (sym (text_starts view text rules eager)) refl))

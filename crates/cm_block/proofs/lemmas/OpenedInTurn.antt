@@ -5,7 +5,7 @@ use Rattle.cm_text.specs.Lines.{LineView}
 use Rattle.cm_tree.specs.declared.tree.ListKind.{ListKind}
 use Rattle.cm_tree.specs.declared.tree.Owner.TheVariants.{Marker}
 use Rattle.cm_scan.specs.blocks.Lines.{is_blank}
-use Rattle.cm_scan.specs.blocks.Starts.{Start, start_of}
+use Rattle.cm_scan.specs.blocks.Starts.{Start, ItemStart, start_of}
 use Rattle.cm_block.specs.OpenLeaf.{no_leaf, LeafLine, LineOpens, begins_nothing, begins_leaf, begins_quote, begins_item, begin_of_start, begin_of}
 use Rattle.cm_block.specs.Level.{Level, empty_level, push_blank, block_opens, item_opens}
 use Rattle.cm_block.specs.Stack.{Owned, own_lines, blank_owner, push_leaf_line, push_by, push_begin}
@@ -16,7 +16,7 @@ use Rattle.cm_scan.specs.declared.markers.ItemMarker as code_marker
 use Rattle.cm_block.specs.declared.counted_line.starts.Start as code_start
 use Rattle.cm_block.specs.declared.counted_line.starts.Start.TheVariants as variants
 use Rattle.cm_block.specs.steps.StartViews.{seen}
-use Rattle.cm_block.specs.steps.ContinuationViews.{begins_quote as begins_quote_marker}
+use Rattle.cm_block.specs.steps.ContinuationViews.{begins_quote as begins_quote_marker, StartsItem}
 use Rattle.cm_block.specs.steps.FirstLines.{begins_container}
 use Rattle.cm_block.specs.steps.FrameStarts.{begun_in, blank_in, left_in}
 use Rattle.cm_block.proofs.lemmas.FrameStartLemmas.{frame, push-cases, not-nothing, IsBegin, blank-begins, begins-nothing, begins-leaf, begins-quote, begins-item, begins-bare-item, within-append, within-nesting, nest-nesting, nest-within, nest-last}
@@ -42,6 +42,13 @@ module _ (rules : Rules) where
       go : (b : Bool) → b ≡ false → (elim b as (λ _. LineOpens) [ true ↦ begins_nothing | false ↦ begin_of_start rules (start_of rules line) line ]) ≡ begin_of_start rules start line
       go true e = absurd (cc e)
       go false e = ap (λ s. begin_of_start rules s line) is
+
+  -- an item, as it shows by its first bytes
+  pub item_begins : (line : LineView) (kind : ListKind) (column : ℕ) (inner : LineView) → StartsItem line kind column inner → begin_of rules line ≡ begins_item kind column inner
+  item_begins line kind column inner item =
+      begins-as line (ItemStart item.marker) item.some (item.starts rules)
+      ∙ ap₂ (begins_item item.marker.kind) item.column_is item.inner_is
+      ∙ ap (λ k. begins_item k column inner) item.kind_is
 
 quoted-last : (q : Bool) (fs : List Frame) (f : Frame) → quoted_by q (fs ++ f ∷ []) ≡ quoted_in f.container (quoted_by q fs)
 unfolding quoted_by

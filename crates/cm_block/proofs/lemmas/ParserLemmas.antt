@@ -4,12 +4,11 @@ use Rattle.std.specs.Prelude.{nat_le, nat_lt, if◌then◌else◌}
 use Rattle.cm_text.specs.Rules.{Rules}
 use Rattle.cm_text.specs.Lines.{LineView}
 use Rattle.cm_text.specs.LineText.{is_line}
-use Rattle.std.specs.FinMap as map
 use Rattle.cm_scan.specs.blocks.Lines.{size}
 use Rattle.cm_scan.specs.blocks.Parts.{LeafPart, depths_of}
 use Rattle.cm_scan.specs.blocks.Blocks.{parts_within, parts_of, blocks_of, owners_of, reference_table, first_too_deep}
 use Rattle.cm_scan.specs.laws.PartLaws.{AreLines}
-use Rattle.cm_block.specs.OpenLeaf.{OpenLeaf, no_leaf, open_text as a_run, is_open_text, run_leaves, closed_leaves, blank_lines_behind, LeafLine, stays_open, is_last, line_of_leaf}
+use Rattle.cm_block.specs.OpenLeaf.{OpenLeaf, no_leaf, is_open_text, closed_leaves, blank_lines_behind, LeafLine, stays_open, is_last, line_of_leaf}
 use Rattle.cm_block.specs.Machine.{in_leaf}
 use Rattle.cm_block.specs.Level.{Level, empty_level, closed_blocks, push_blank}
 use Rattle.cm_block.specs.Stack.{Owned, Stack, empty_stack, close_leaves, push_blanks, close_open, own_leaves, own_blanks, own_open, close_stack, push_leaf_line, push_line, push_lines}
@@ -90,7 +89,7 @@ stack_ends bare fs gs v u y s t leaves plain frames none level owners =
 
 -- a new parser
 
-pub new_holds : (rules : Rules) (s : Row) (o : Owned) → s.frames ≡ [] → s.bare ≡ false → s.level ≡ empty_level → o ≡ record { owners = []; leaves = 0; table = map.empty }
+pub new_holds : (rules : Rules) (s : Row) (o : Owned) → s.frames ≡ [] → s.bare ≡ false → s.level ≡ empty_level → o ≡ record { owners = []; leaves = 0; table = [] }
     → stack_with s.bare s.frames s.level no_leaf o ≡ push_lines rules empty_stack []
 unfolding push_lines nest
 new_holds rules s o frames bare level owners =

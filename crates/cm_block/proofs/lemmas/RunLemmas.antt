@@ -4,6 +4,7 @@ use Rattle.std.specs.Prelude.{◌==◌}
 use Rattle.std.proofs.lemmas.List.{drop_all}
 use Rattle.std.proofs.lemmas.Bool.Decides.{nat_tests}
 use Rattle.memchr.specs.Find.{is_byte, places, places_from}
+use Rattle.cm_scan.specs.Words.{begins_with}
 use Rattle.cm_scan.specs.inlines.Links.{LinkDefinition, label, link_definition, Definitions, definitions_within, definitions_of}
 use Rattle.cm_scan.specs.blocks.Blocks.{line_feeds, line_count}
 use Rattle.cm_scan.specs.Scanned.{definition_with}
@@ -100,6 +101,16 @@ enough-length (b ∷ bs) = go (b == 91) refl
         let k : b ≡ 91 = grind (arith, nat_tests, e) in
         inr (rw k (omega (arith, h)))
     go false e = inl (grind (arith, e))
+
+-- a text that starts with no bracket starts with no definition
+
+no-bracket : (text : List ℕ) → begins_with 91 (drop 0 text) ≡ false → None ≡ link_definition text
+unfolding link_definition label
+no-bracket [] e = refl
+no-bracket (b ∷ bs) e = sym (grind (arith, e))
+
+pub no_definition : (text bytes : List ℕ) (bracket : Bool) → bytes ≡ text → bracket ≡ begins_with 91 (drop 0 bytes) → bracket ≡ false → None ≡ link_definition text
+no_definition text bytes bracket same is none = no-bracket text (ap (λ t. begins_with 91 (drop 0 t)) (sym same) ∙ sym is ∙ none)
 
 pub definitions_none : (text : List ℕ) → link_definition text ≡ None → definitions_of text ≡ record { taken = []; left = text }
 unfolding definitions_of

@@ -1,20 +1,22 @@
 -- What a line starts, by what each scanner returns.
-use Rattle.std.proofs.Common.{◌≡◌, ℕ, length, drop, get_or, subst, ◌<◌, ◌≤◌, Bool, true, false, ◌==◌, ◌&&◌, ◌||◌, not, None, Some, List, [], ◌∷◌, ◌++◌, replicate, Option, refl, ◌∙◌, sym, ap, arith}
+use Rattle.std.proofs.Common.{◌≡◌, ℕ, length, drop, get_or, subst, ◌<◌, ◌≤◌, Bool, true, false, ◌==◌, ◌&&◌, ◌||◌, not, None, Some, List, [], ◌∷◌, ◌++◌, replicate, Option, refl, ◌∙◌, sym, ap, ap₂, arith}
 use Rattle.cm_text.specs.Lines.{LineView}
-use Rattle.cm_block.specs.steps.StartViews.{begins_break, begins_fence}
+use Rattle.cm_block.specs.steps.StartViews.{begins_break, begins_fence, begins_text, is_at_text}
 use Rattle.cm_text.specs.Indentation.{indent_from, indent_of, strip_columns, after_indent}
 use Rattle.cm_text.specs.Views.{seen_view}
 use Rattle.cm_text.specs.declared.view.View.{View}
 use Rattle.cm_text.proofs.lemmas.StripLemmas.{strip_takes_columns}
-use Rattle.cm_scan.specs.blocks.Lines.{content_of}
+use Rattle.cm_scan.specs.blocks.Lines.{is_blank, content_of}
+use Rattle.cm_scan.specs.laws.BlockLaws.{is_unindented}
+use Rattle.cm_scan.proofs.lemmas.blocks.SingleBlocks.{unindented_line}
 use Rattle.std.specs.Option.{is_some}
 use Rattle.cm_text.specs.Rules.{Rules}
-use Rattle.cm_scan.specs.Words.{is_digit, begins_with, given, ◌<|>◌, skip, front_of, run_length, trim_start}
-use Rattle.cm_scan.specs.blocks.LineForms.{Heading, Fence, ItemMarker, is_thematic_break, atx_heading, opening_fence, fence_of, item_marker, bullet_marker, ordered_marker, marker_behind}
+use Rattle.cm_scan.specs.Words.{is_digit, begins_with, given, ◌<|>◌, skip, front_of, run_length, trim_start, is_blank_text}
+use Rattle.cm_scan.specs.blocks.LineForms.{Heading, Fence, ItemMarker, underline, is_thematic_break, atx_heading, opening_fence, fence_of, item_marker, bullet_marker, ordered_marker, marker_behind}
 use Rattle.cm_scan.specs.blocks.HtmlBlocks.{HtmlKind, html_start, is_at_letter}
-use Rattle.cm_scan.proofs.lemmas.texts.ToldApart.{differs}
+use Rattle.cm_scan.proofs.lemmas.texts.ToldApart.{differs, none-passes}
 use Rattle.std.proofs.lemmas.Bool.Decides.{nat_tests}
-use Rattle.cm_scan.proofs.lemmas.blocks.QuietStarts.{no-heading, no-fence, no-html-start, no-bullet, no-number, no-break, letter-starts, letter-underlines, letter-content}
+use Rattle.cm_scan.proofs.lemmas.blocks.QuietStarts.{starters, is_quiet, unmarked-start, no-level, no-heading, no-fence, no-html-start, no-bullet, no-number, no-break, letter-starts, letter-underlines}
 use Rattle.std.proofs.lemmas.Bool.{and_parts, eqb-true, ne_eqb}
 use Rattle.cm_scan.specs.blocks.Starts.{Start, IndentedCode, QuoteMarker, AtxHeading, OpeningFence, HtmlStart, BreakLine, ItemStart, TextLine, seen_as, or_text, start_of_content, start_of, underline_of}
 
@@ -38,7 +40,7 @@ module _ (rules : Rules) where
 
 -- ---- by its first byte
 
-no-item : (b : ℕ) (bs : List ℕ) → (b == 45) ≡ false → (b == 43) ≡ false → (b == 42) ≡ false → is_digit b ≡ false → item_marker (b ∷ bs) ≡ None
+pub no-item : (b : ℕ) (bs : List ℕ) → (b == 45) ≡ false → (b == 43) ≡ false → (b == 42) ≡ false → is_digit b ≡ false → item_marker (b ∷ bs) ≡ None
 unfolding item_marker
 no-item b bs d p s n = rw (no-bullet b bs d p s, no-number b bs n) refl
 
@@ -135,7 +137,7 @@ module _ (rules : Rules) where
   unfolding start_of
   starts_code line lazy far = grind (arith, lazy, far)
 
-  starts_content : (line : LineView) → line.lazy ≡ false → indent_of line < 4 → start_of_content rules (content_of line) ≡ start_of rules line
+  pub starts_content : (line : LineView) → line.lazy ≡ false → indent_of line < 4 → start_of_content rules (content_of line) ≡ start_of rules line
   unfolding start_of
   starts_content line lazy near = grind (arith, lazy, near)
 
@@ -177,7 +179,48 @@ letter_starts rules view eager begins = letter-starts rules (seen_view view) eag
 pub letter_underlines : (view : View) → view.lazy ≡ false → ((view.spaces == 0) && is_at_letter view.rest.now) ≡ true → underline_of (seen_view view) ≡ None
 letter_underlines view eager begins = letter-underlines (seen_view view) eager (at_letter view begins)
 
-pub letter_content : (view : View) → ((view.spaces == 0) && is_at_letter view.rest.now) ≡ true → content_of (seen_view view) ≡ view.rest.now
-letter_content view begins =
+-- a line that starts as text, without indentation
+
+letter-begins : (text : List ℕ) → is_at_letter text ≡ true → is_at_text text ≡ true
+letter-begins [] letter = letter
+letter-begins (b ∷ bs) letter = grind (arith, nat_tests, letter)
+
+pub letter_is_text : (view : View) → ((view.spaces == 0) && is_at_letter view.rest.now) ≡ true → ((view.spaces == 0) && is_at_text view.rest.now) ≡ true
+letter_is_text view begins =
     let parts = and_parts (view.spaces == 0) (is_at_letter view.rest.now) begins in
-    letter-content (seen_view view).text (at_letter view begins) ∙ ap (λ n. replicate n 32 ++ view.rest.now) (eqb-true view.spaces 0 parts.0)
+    ap₂ (λ v w. v && w) parts.0 (letter-begins view.rest.now parts.1)
+
+unindented-text : (text : List ℕ) → is_at_text text ≡ true → is_unindented text ≡ true
+unindented-text [] h = h
+unindented-text (b ∷ bs) h = rw (differs begins_text b 32 h refl, differs begins_text b 9 h refl) refl
+
+text-start : (rules : Rules) (text : List ℕ) → is_at_text text ≡ true → start_of_content rules text ≡ TextLine
+unfolding is_quiet
+text-start rules [] h = cc
+text-start rules (b ∷ bs) h =
+    unmarked-start rules b bs (ap not (none-passes begins_text b starters h refl)) (no-number b bs (grind (arith, h)))
+
+text-level : (text : List ℕ) → is_at_text text ≡ true → underline text ≡ None
+text-level [] h = cc
+text-level (b ∷ bs) h = no-level b bs (differs begins_text b 61 h refl) (differs begins_text b 45 h refl)
+
+module _ (view : View) (begins : ((view.spaces == 0) && is_at_text view.rest.now) ≡ true) where
+  at-text : is_at_text (seen_view view).text ≡ true
+  at-text =
+      let parts = and_parts (view.spaces == 0) (is_at_text view.rest.now) begins in
+      ap (λ n. is_at_text (replicate n 32 ++ view.rest.now)) (eqb-true view.spaces 0 parts.0) ∙ parts.1
+
+  pub text_shows : is_blank (seen_view view) ≡ false
+  text_shows = go (seen_view view).text at-text
+    where
+      go : (text : List ℕ) → is_at_text text ≡ true → is_blank_text text ≡ false
+      go [] h = absurd (cc (h))
+      go (b ∷ bs) h = rw (differs begins_text b 32 h refl, differs begins_text b 9 h refl) refl
+
+  pub text_starts : (rules : Rules) → view.lazy ≡ false → start_of rules (seen_view view) ≡ TextLine
+  text_starts rules eager = (unindented_line rules (seen_view view) eager (unindented-text (seen_view view).text at-text)).start ∙ text-start rules (seen_view view).text at-text
+
+  pub text_underlines : view.lazy ≡ false → underline_of (seen_view view) ≡ None
+  text_underlines eager =
+      (unindented_line (record { older = false; strike = false; raw_html = true; any_address = true }) (seen_view view) eager (unindented-text (seen_view view).text at-text)).level
+      ∙ text-level (seen_view view).text at-text

@@ -118,7 +118,7 @@ texts-stand (l ∷ m ∷ ms) old new lines source some before now g few text one
     let begun = and_parts (begins l) (list_all begins (m ∷ ms)) text in
     let are = and_parts (is_line l) (list_all is_line (m ∷ ms)) one in
     let line = plain_line l in
-    let mid : parser.BlockParser = record new { leaf = record { kind = Run; text = add_text source line; empty = λ e. absurd (cc (e)) }; tests = min (old.tests + 2) (2 ^ 128 - 1) } in
+    let mid : parser.BlockParser = record new { leaf = record { kind = Run; text = add_text source line; blank_lines = new.leaf.blank_lines; info = new.leaf.info; empty = λ e. absurd (cc (e)) }; tests = min (old.tests + 2) (2 ^ 128 - 1) } in
     let first = text-next old mid lines source line before refl
     (record { frames = g.frames; level = g.level; bare = g.bare; owners = g.owners; limits = g.limits; fault = g.fault; tests = refl }) few begun.0 are.0 h in
     let rest : Goes mid new (2 * length (m ∷ ms)) = record {

@@ -1,35 +1,50 @@
 -- The first line of a leaf block, as the code has it.
-use Rattle.std.specs.Prelude.{◌≡◌, ⊤, Bool, true, false, None}
+use Rattle.std.specs.Prelude.{◌≡◌, ℕ, Bool, true, false, not, ◌||◌, List, [], ◌∷◌, Option, Some, None, is_some}
 use Rattle.cm_text.specs.Rules.{Rules}
 use Rattle.cm_text.specs.Lines.{LineView}
 use Rattle.cm_scan.specs.blocks.Lines.{is_blank}
-use Rattle.cm_scan.specs.blocks.Starts.{Start, QuoteMarker, ItemStart}
+use Rattle.cm_scan.specs.blocks.Parts.{LeafPart, heading, thematic_break}
+use Rattle.cm_scan.specs.blocks.Starts.{Start, QuoteMarker, AtxHeading, BreakLine, ItemStart}
 use Rattle.cm_block.specs.declared.counted_line.Begins.{Begins}
 use Rattle.cm_block.specs.declared.counted_line.Begins.TheVariants.{Nothing, Quote, Item, Leaf}
 use Rattle.cm_block.specs.declared.counted_line.first_line.FirstLine.{FirstLine}
-use Rattle.cm_block.specs.declared.counted_line.first_line.FirstLine.TheVariants.{Opens, Ends, Whole}
+use Rattle.cm_block.specs.declared.counted_line.first_line.FirstLine.TheVariants.{Opens, Ends}
 use Rattle.cm_block.specs.declared.open_leaf.OpenLeaf.{OpenLeaf}
-use Rattle.cm_block.specs.OpenLeaf.{no_leaf, LeafLine, stays_open, is_last, begins_quote, begins_item, begin_of_start, begin_of}
+use Rattle.cm_block.specs.OpenLeaf.{LeafLine, stays_open, is_last, begins_quote, begins_item, begin_of_start, begin_of}
 use Rattle.cm_block.specs.LeafViews.{leaf_of}
 use Rattle.cm_block.specs.steps.StartViews.{seen}
-use Rattle.cm_block.specs.steps.LeafSteps.{leaves_with, whole_leaves}
+use Rattle.cm_block.specs.steps.LeafSteps.{leaves_with}
 
 -- what it makes, where this is open then
 abbrev pub first_of : FirstLine → OpenLeaf → LeafLine
 first_of Opens now = stays_open (leaf_of now)
-first_of Ends now = is_last (leaves_with None false now.kind now.text)
-first_of (Whole leaf) now = is_last (whole_leaves leaf)
-
--- after a leaf of one line none is open
-abbrev pub StaysClosed : FirstLine → OpenLeaf → Type 0
-StaysClosed (Whole leaf) now = leaf_of now ≡ no_leaf
-StaysClosed _ now = ⊤
+first_of Ends now = is_last (leaves_with None false now)
 
 -- the line starts with the marker of a quote or an item
 abbrev pub begins_container : Start → Bool
 begins_container QuoteMarker = true
 begins_container (ItemStart marker) = true
 begins_container _ = false
+
+-- the leaf that the line is by itself
+abbrev pub whole_leaf : Start → Option LeafPart
+whole_leaf (AtxHeading h) = Some (heading h.level h.content)
+whole_leaf BreakLine = Some thematic_break
+whole_leaf _ = None
+
+abbrev pub is_whole : Start → Bool
+is_whole start = is_some (whole_leaf start)
+
+abbrev pub of_one_line : Option LeafPart → List (LeafPart × ℕ)
+of_one_line None = []
+of_one_line (Some x) = (x, 1) ∷ []
+
+abbrev pub whole_leaves : Start → List (LeafPart × ℕ)
+whole_leaves start = of_one_line (whole_leaf start)
+
+-- the line opens a leaf that further lines may continue
+abbrev pub opens_leaf : Start → Bool
+opens_leaf start = not (is_whole start || begins_container start)
 
 -- what the line starts, and how it continues
 abbrev pub Found : Rules → LineView → Begins → LineView → Type 0

@@ -7,13 +7,11 @@ use Rattle.cm_tree.specs.declared.tree.Owner.TheVariants as owner
 use Rattle.cm_block.specs.Stack.{Owned}
 use Rattle.cm_scan.specs.Words.{is_empty}
 use Rattle.cm_scan.specs.blocks.Starts.{underline_of}
-use Rattle.cm_scan.specs.blocks.Parts.{LeafPart, heading, code, html, thematic_break}
+use Rattle.cm_scan.specs.blocks.Parts.{LeafPart, code, html}
 use Rattle.cm_scan.specs.blocks.Blocks as blocks
 use Rattle.cm_scan.specs.blocks.Blocks.{line_feeds, rest_of}
 use Rattle.cm_block.specs.declared.text_runs.NextLine.{NextLine}
 use Rattle.cm_block.specs.declared.text_runs.NextLine.TheVariants.{GoesOn, Ends, Underlines}
-use Rattle.cm_block.specs.declared.closed_leaf.WholeLeaf.{WholeLeaf}
-use Rattle.cm_block.specs.declared.closed_leaf.WholeLeaf.TheVariants as whole
 use Rattle.cm_block.specs.declared.leaf_kind.LeafKind.{LeafKind}
 use Rattle.cm_block.specs.declared.leaf_kind.LeafKind.TheVariants.{Nothing, Run, Code, Fence, Html}
 use Rattle.cm_block.specs.declared.open_leaf.OpenLeaf.{OpenLeaf}
@@ -41,23 +39,22 @@ abbrev pub fence_lines : (ended : Bool) → List ℕ → ℕ
 fence_lines true text = suc (suc (line_feeds text))
 fence_lines false text = suc (line_feeds text)
 
--- the leaves that an open one of this kind makes with this text: a run with an underline or none, a fence with a closing one or none
-abbrev pub leaves_with : Option ℕ → (has_end : Bool) → LeafKind → List ℕ → List (LeafPart × ℕ)
-leaves_with level has_end Nothing text = []
-leaves_with level has_end Run text = run_leaves level text
-leaves_with level has_end (Code blank_lines) text = (code [] (ended text), suc (line_feeds text)) ∷ []
-leaves_with level has_end (Fence kind info columns) text = (code (string_bytes info) text, fence_lines has_end text) ∷ []
-leaves_with level has_end (Html kind) text = (html (ended text), suc (line_feeds text)) ∷ []
+-- the leaves that an open one of this kind makes with this text and this info string
+abbrev pub leaves_of_kind : Option ℕ → (has_end : Bool) → LeafKind → (text info : List ℕ) → List (LeafPart × ℕ)
+leaves_of_kind level has_end Nothing text info = []
+leaves_of_kind level has_end Run text info = run_leaves level text
+leaves_of_kind level has_end Code text info = (code [] (ended text), suc (line_feeds text)) ∷ []
+leaves_of_kind level has_end (Fence kind columns) text info = (code info text, fence_lines has_end text) ∷ []
+leaves_of_kind level has_end (Html kind) text info = (html (ended text), suc (line_feeds text)) ∷ []
 
--- a leaf of one line
-abbrev pub whole_leaves : WholeLeaf → List (LeafPart × ℕ)
-whole_leaves (whole.Heading level content) = (heading level (string_bytes content), 1) ∷ []
-whole_leaves whole.Break = (thematic_break, 1) ∷ []
+-- the leaves that the open one makes: a run with an underline or none, a fence with a closing one or none
+abbrev pub leaves_with : Option ℕ → (has_end : Bool) → OpenLeaf → List (LeafPart × ℕ)
+leaves_with level has_end leaf = leaves_of_kind level has_end leaf.kind leaf.text (string_bytes leaf.info)
 
 -- what a line is to the open leaf, which this is then
 abbrev pub taken_of : LeafLine → OpenLeaf → Option spec.LeafLine
 taken_of Stays now = Some (stays_open (leaf_of now))
-taken_of (Last level has_end) now = Some (is_last (leaves_with level has_end now.kind now.text))
+taken_of (Last level has_end) now = Some (is_last (leaves_with level has_end now))
 taken_of Leaves now = None
 
 -- a line that is none of the leaf leaves it as it is

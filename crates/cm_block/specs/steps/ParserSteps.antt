@@ -8,7 +8,7 @@ use Rattle.cm_block.specs.declared.fault.BlockFault.TheVariants.{BlocksTooDeep, 
 use Rattle.cm_block.specs.Stack.{Stack, close_stack, push_leaf_line, push_line}
 use Rattle.cm_block.specs.Depths.{nesting}
 use Rattle.cm_block.specs.steps.FrameSteps.{within}
-use Rattle.cm_block.specs.OpenLeaf.{LeafLine, line_of_leaf}
+use Rattle.cm_block.specs.OpenLeaf.{OpenLeaf, no_leaf, open_text, LeafLine, line_of_leaf}
 use Rattle.cm_block.specs.LeafViews.{leaf_of}
 use Rattle.cm_block.specs.Parser.{stack_of}
 
@@ -17,6 +17,12 @@ abbrev pub Deep : BlockFault → LimitsView → Stack → LineView → Type 0
 Deep (BlocksTooDeep n) limits before line = (limits.blocks < nesting (push_line limits.rules before line).now) × (n ≡ suc (length (close_stack before).owners))
 Deep NoMemory limits before line = ⊤
 Deep TooLarge limits before line = ⊤
+
+-- a blank line is none of its lines
+abbrev pub ends_at_blank : OpenLeaf → Bool
+ends_at_blank no_leaf = true
+ends_at_blank (open_text source) = true
+ends_at_blank _ = false
 
 -- A line that stays in the given number of containers is one of the open leaf, or not: it stays in all then.
 abbrev pub TakenToLeaf : Bool → ℕ → code.BlockParser → LineView → code.BlockParser → Type 0

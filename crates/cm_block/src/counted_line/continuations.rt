@@ -12,6 +12,7 @@ ghost use Rattle.cm_block.specs.steps.LineTests.{Tested};
 ghost use Rattle.cm_block.specs.steps.StartViews.{seen};
 ghost use Rattle.cm_block.specs.steps.ContinuationViews.{begins_quote, seen_marker};
 
+use crate::counted_line::items::plain_marker;
 use crate::counted_line::starts::{Start, start_of};
 use cm_scan::{HtmlKind, ItemMarker, is_blank_text, quote_marker};
 use cm_text::{Rules, View, leading_spaces};
@@ -61,6 +62,7 @@ fn may_be_lazy(start: &Start<'_>) -> bool
 
 /// The line as a lazy continuation line, if it can be one: `open_text` says whether the lines so far leave a
 /// paragraph open (5.1 Block quotes, 5.2 List items).
+#[inline(always)]
 pub(crate) fn if_lazy<'a>(rules: Rules, line: &View<'a>, open_text: bool) -> Option<View<'a>>
     ensures line { option_map seen_view result
         ≡ goes_inward (continuation_if_lazy rules (seen_view line.now)) open_text }
@@ -69,9 +71,23 @@ pub(crate) fn if_lazy<'a>(rules: Rules, line: &View<'a>, open_text: bool) -> Opt
     if !open_text {
         return None;
     }
+    if let Some(_) = plain_marker(line) {
+        return None;
+    }
     if is_blank(line) {
         return None;
     }
+    lazily(rules, line)
+}
+
+/// The same, while a paragraph is open, for a line that isn't blank.
+#[inline(never)]
+fn lazily<'a>(rules: Rules, line: &View<'a>) -> Option<View<'a>>
+    requires { is_blank (seen_view line.now) ≡ false }
+    ensures line { option_map seen_view result
+        ≡ goes_inward (continuation_if_lazy rules (seen_view line.now)) true }
+    ensures lazy { IfSome result (λ inner. inner.lazy ≡ true) }
+{
     if !may_be_lazy(&start_of(rules, line)) {
         return None;
     }

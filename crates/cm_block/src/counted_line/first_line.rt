@@ -1,62 +1,91 @@
-//! What the first line of a leaf block makes: a leaf that further lines may continue, or a whole one.
-ghost use Rattle.std.specs.Prelude.{◌≡◌, IfOk, IfSome, IfNone, true};
-ghost use Rattle.cm_block.specs.Prelude.{LineView, seen_view, kind_of};
+//! What the first line of a leaf block makes: a leaf that further lines may continue, or one that is whole.
+ghost use Rattle.std.specs.Prelude.{◌≡◌, IfOk, IfSome, IfNone, OnOk, option_map, false};
+ghost use Rattle.cm_block.specs.Prelude.{seen_view, kind_of, leaf_block};
 ghost use Rattle.cm_text.specs.Rules as all;
-ghost use Rattle.cm_block.specs.declared.counted_line.starts.Start.TheVariants.{Atx, Fence};
+ghost use Rattle.cm_block.specs.declared.counted_line.starts.Start.TheVariants.{Fence};
 ghost use Rattle.cm_scan.specs.blocks.Starts as starts;
-ghost use Rattle.cm_block.specs.OpenLeaf.{no_leaf, begin_of_start, begins_leaf, is_last};
+ghost use Rattle.cm_block.specs.OpenLeaf.{no_leaf, begin_of_start, begins_leaf};
+ghost use Rattle.cm_block.specs.Stack.{close_leaves, own_leaves};
 ghost use Rattle.cm_block.specs.LeafViews.{leaf_of};
-ghost use Rattle.cm_block.specs.steps.LeafSteps.{whole_leaves};
 ghost use Rattle.cm_block.specs.steps.StartViews.{seen};
-ghost use Rattle.cm_block.specs.steps.FirstLines.{first_of, StaysClosed, begins_container};
+ghost use Rattle.cm_block.specs.steps.LeafBlocks.{block_of};
+ghost use Rattle.cm_block.specs.steps.FirstLines.{first_of, whole_leaf, is_whole, whole_leaves};
+ghost use Rattle.cm_block.specs.steps.FirstLines.{opens_leaf};
 
-use crate::closed_leaf::WholeLeaf;
 use crate::counted_line::LeafStart;
 use crate::counted_line::copies::push_line;
 use crate::counted_line::ends::ends_html;
 use crate::counted_line::starts::{Start, content};
 use crate::infos::info_of;
+use crate::leaf_block::LeafBlock;
 use crate::leaf_kind::LeafKind;
-use crate::leaf_text::LeafText;
 use crate::open_leaf::OpenLeaf;
-use cm_scan::{AtxHeading, HtmlKind, OpeningFence};
+use crate::owners::Owners;
+use crate::stack::Stack;
+use cm_scan::{HtmlKind, OpeningFence};
 use cm_text::{NoMemory, Rules, View};
+use cm_tree::RawFault;
 use std::alloc::{AllocError, Global};
 
 /// What the first line of a leaf block makes.
-#[derive(Debug, Drop)]
+#[derive(Clone, Copy, Debug)]
 pub(crate) enum FirstLine {
     /// A leaf that further lines may continue. It is open.
     Opens,
     /// A leaf that is open, and ends with this line.
     Ends,
-    /// A leaf of one line. No leaf is open.
-    Whole(WholeLeaf),
+}
+
+/// The leaf block that a line is by itself: a heading (4.2 ATX headings) or a thematic break (4.1 Thematic
+/// breaks).
+#[inline(always)]
+fn whole_leaf<'a>(start: &Start<'a>) -> Option<LeafBlock<'a>>
+    ensures { option_map block_of result ≡ option_map leaf_block (whole_leaf (seen start.now)) }
+{
+    match start {
+        Start::Atx(heading) => Some(LeafBlock::Heading {
+            level: heading.level,
+            source: heading.content,
+        }),
+        Start::Break => Some(LeafBlock::Break),
+        _ => None,
+    }
+}
+
+/// Adds the leaf block that a line is by itself, and the line to the owners. Returns whether there is one.
+#[inline(always)]
+pub(crate) fn put_whole(
+    start: &Start<'_>,
+    stack: &mut Stack,
+    owners: &mut Owners,
+) -> Result<bool, RawFault>
+    ensures put { IfOk result (λ put. put ≡ is_whole (seen start.now)) }
+    ensures level { OnOk result (stack.new.level
+        ≡ close_leaves stack.old.level (whole_leaves (seen start.now))) }
+    ensures frames { stack.new.frames ≡ stack.old.frames }
+    ensures bare { stack.new.bare ≡ stack.old.bare }
+    ensures owners { OnOk result (owners.new ≡ own_leaves owners.old (whole_leaves (seen start.now))) }
+    ensures kept { IfOk result (λ put. put ≡ false → stack.new ≡ stack.old) }
+    ensures unowned { IfOk result (λ put. put ≡ false → owners.new ≡ owners.old) }
+{
+    let Some(leaf) = whole_leaf(start) else {
+        return Ok(false);
+    };
+    owners.leaf(1)?;
+    stack.put(&leaf)?;
+    Ok(true)
 }
 
 /// Opens indented code: the line loses 4 columns (4.4 Indented code blocks).
-fn begin_code(alloc: Global, leaf: &mut OpenLeaf, line: &View<'_>) -> Result<FirstLine, AllocError>
+fn begin_code(leaf: &mut OpenLeaf, line: &View<'_>) -> Result<FirstLine, AllocError>
     requires { leaf_of leaf.old ≡ no_leaf }
-    ensures leaf { IfOk result (λ first. (by : all.Rules) → begins_leaf (first_of first leaf.new)
+    ensures { IfOk result (λ first. (by : all.Rules) → begins_leaf (first_of first leaf.new)
         ≡ begin_of_start by starts.IndentedCode (seen_view line.now)) }
-    ensures closed { IfOk result (λ first. StaysClosed first leaf.new) }
 {
-    leaf.kind = LeafKind::Code {
-        blank_lines: LeafText::new(alloc),
-    };
+    leaf.kind = LeafKind::Code;
+    leaf.blank_lines.clear();
     push_line(&mut leaf.text, &line.strip(4))?;
     Ok(FirstLine::Opens)
-}
-
-/// An ATX heading (4.2 ATX headings).
-fn heading_of(alloc: Global, heading: AtxHeading<'_>) -> Result<WholeLeaf, AllocError>
-    ensures { IfOk result (λ whole. (by : all.Rules) (line : LineView) →
-        begins_leaf (is_last (whole_leaves whole)) ≡ begin_of_start by (seen (Atx heading.entry)) line) }
-{
-    Ok(WholeLeaf::Heading {
-        level: heading.level,
-        content: String::from_str(alloc, heading.content)?,
-    })
 }
 
 /// Opens a fenced code block, with its info resolved. Each further line loses as many columns as this one has
@@ -69,24 +98,23 @@ fn begin_fence(
     line: &View<'_>,
 ) -> Result<FirstLine, NoMemory>
     requires { leaf_of leaf.old ≡ no_leaf }
-    ensures leaf { IfOk result (λ first. begins_leaf (first_of first leaf.new)
+    ensures { IfOk result (λ first. begins_leaf (first_of first leaf.new)
         ≡ begin_of_start rules (seen (Fence fence.entry)) (seen_view line.now)) }
-    ensures closed { IfOk result (λ first. StaysClosed first leaf.new) }
 {
+    leaf.info = info_of(alloc, rules, fence.info)?;
     leaf.kind = LeafKind::Fence {
         kind: fence.kind,
-        info: info_of(alloc, rules, fence.info)?,
         columns: line.indent(),
     };
     Ok(FirstLine::Opens)
 }
 
 /// Opens HTML, which its first line may end (4.6 HTML blocks).
+#[inline(always)]
 fn begin_html(leaf: &mut OpenLeaf, kind: HtmlKind, line: &View<'_>) -> Result<FirstLine, AllocError>
     requires { leaf_of leaf.old ≡ no_leaf }
-    ensures leaf { IfOk result (λ first. (by : all.Rules) → begins_leaf (first_of first leaf.new)
+    ensures { IfOk result (λ first. (by : all.Rules) → begins_leaf (first_of first leaf.new)
         ≡ begin_of_start by (starts.HtmlStart (kind_of kind)) (seen_view line.now)) }
-    ensures closed { IfOk result (λ first. StaysClosed first leaf.new) }
 {
     leaf.kind = LeafKind::Html { kind };
     push_line(&mut leaf.text, line)?;
@@ -100,17 +128,16 @@ fn begin_html(leaf: &mut OpenLeaf, kind: HtmlKind, line: &View<'_>) -> Result<Fi
 #[inline(always)]
 fn begin_run(leaf: &mut OpenLeaf, line: &View<'_>) -> Result<FirstLine, AllocError>
     requires { leaf_of leaf.old ≡ no_leaf }
-    ensures leaf { IfOk result (λ first. (by : all.Rules) → begins_leaf (first_of first leaf.new)
+    ensures { IfOk result (λ first. (by : all.Rules) → begins_leaf (first_of first leaf.new)
         ≡ begin_of_start by starts.TextLine (seen_view line.now)) }
-    ensures closed { IfOk result (λ first. StaysClosed first leaf.new) }
 {
     leaf.kind = LeafKind::Run;
     leaf.text.push(content(line))?;
     Ok(FirstLine::Opens)
 }
 
-/// Opens a leaf block with its first line, by what that starts. A quote's or an item's marker opens none. No
-/// leaf is open so far.
+/// Opens a leaf block with its first line, by what that starts. A leaf of one line isn't opened, and
+/// neither a quote's nor an item's marker opens one. No leaf is open so far.
 #[inline(always)]
 pub(crate) fn begin_leaf(
     alloc: Global,
@@ -122,16 +149,13 @@ pub(crate) fn begin_leaf(
     requires { leaf_of leaf.old ≡ no_leaf }
     ensures leaf { IfOk result (λ first. IfSome first (λ f. begins_leaf (first_of f leaf.new)
         ≡ begin_of_start rules (seen start.now.found) (seen_view line.now))) }
-    ensures closed { IfOk result (λ first. IfSome first (λ f. StaysClosed f leaf.new)) }
-    ensures container { IfOk result (λ first. IfNone first (begins_container (seen start.now.found) ≡ true)) }
+    ensures other { IfOk result (λ first. IfNone first (opens_leaf (seen start.now.found) ≡ false)) }
 {
     match &start.found {
         Start::TextLine => Ok(Some(begin_run(leaf, line)?)),
-        Start::IndentedCode => Ok(Some(begin_code(alloc, leaf, line)?)),
-        Start::Atx(heading) => Ok(Some(FirstLine::Whole(heading_of(alloc, *heading)?))),
+        Start::IndentedCode => Ok(Some(begin_code(leaf, line)?)),
         Start::Fence(fence) => Ok(Some(begin_fence(alloc, rules, leaf, *fence, line)?)),
         Start::Html(kind) => Ok(Some(begin_html(leaf, *kind, line)?)),
-        Start::Break => Ok(Some(FirstLine::Whole(WholeLeaf::Break))),
-        Start::QuoteMarker | Start::Item(_) => Ok(None),
+        Start::Atx(_) | Start::Break | Start::QuoteMarker | Start::Item(_) => Ok(None),
     }
 }

@@ -5,7 +5,9 @@ ghost use Rattle.cm_block.specs.Prelude.{◌<|>◌, is_thematic_break, atx_headi
 ghost use Rattle.cm_block.specs.Prelude.{item_marker, html_start, HtmlStart, BreakLine};
 ghost use Rattle.cm_block.specs.Prelude.{ItemStart, seen_as, or_text, start_of_content, start_of};
 ghost use Rattle.cm_scan.specs.blocks.Starts as forms;
-ghost use Rattle.cm_block.specs.steps.StartViews.{seen, begins_break, begins_fence};
+ghost use Rattle.cm_block.specs.steps.ContinuationViews.{begins_plain};
+ghost use Rattle.cm_block.specs.steps.StartViews.{seen, begins_break, begins_fence, begins_text};
+ghost use Rattle.cm_block.specs.steps.StartViews.{is_at_text};
 
 use cm_scan::{
     AtxHeading, HtmlKind, ItemMarker, OpeningFence, atx, fence, html_start_by, item_marker,
@@ -38,12 +40,49 @@ pub(crate) fn begins_with_letter(line: &View<'_>) -> bool
     }
 }
 
+/// Whether only text starts with a byte, whatever follows.
+#[inline(always)]
+fn begins_text(b: u8) -> bool
+    ensures { result ≡ begins_text b }
+{
+    !matches!(
+        b,
+        b'>' | b'#' | b'`' | b'~' | b'<' | b'-' | b'_' | b'*' | b'+' | b'=' | b'0'..=b'9'
+            | b' '
+            | b'\t'
+            | b'\n'
+    )
+}
+
+/// Whether a line starts, without indentation, with a byte with which only text starts.
+#[inline(always)]
+pub(crate) fn begins_as_text(line: &View<'_>) -> bool
+    ensures { result ≡ ((line.now.spaces == 0) && is_at_text line.now.rest.now) }
+{
+    match line.rest.as_bytes() {
+        [b, ..] => line.spaces == 0 && begins_text(*b),
+        [] => false,
+    }
+}
+
+/// Whether a text starts with a byte that is neither a space nor a tab.
+#[inline(always)]
+pub(crate) fn begins_plain(text: &str) -> bool
+    ensures { result ≡ begins_plain text.now }
+{
+    match text.as_bytes() {
+        [b, ..] => *b != b' ' && *b != b'\t',
+        [] => false,
+    }
+}
+
 /// The line after its indentation.
+#[inline(always)]
 pub(crate) fn content<'a>(line: &View<'a>) -> &'a str
     ensures content { result.now ≡ content_of (seen_view line.now) }
     ensures line { is_line result.now ≡ true }
 {
-    if begins_with_letter(line) {
+    if begins_plain(line.rest) {
         return line.rest;
     }
     line.strip(line.indent()).rest

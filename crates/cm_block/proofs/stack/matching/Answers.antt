@@ -3,9 +3,13 @@ use Rattle.cm_text.specs.Views.{seen_view}
 use Rattle.cm_text.specs.declared.view.View.{View}
 use Rattle.cm_block.specs.steps.FrameViews.{container_of, frame_in, frames_in}
 use Rattle.cm_block.specs.steps.FrameSteps.{matching, behind}
-use Rattle.cm_block.proofs.lemmas.Matching.{frames_from, frames_end, match_next, match_stop, match_end, match_lazy, behind_all, all_lazily, none_lazily}
+use Rattle.cm_block.proofs.lemmas.Matching.{none_open, frames_from, frames_end, match_next, match_stop, match_end, match_lazy, behind_all, all_lazily, none_lazily}
 use Rattle.cm_block.proofs.lemmas.TestLemmas.{tested_then, tested_within, next_and_lazily}
 use Rattle.cm_block.proofs.stack.matching.Goals as goal
+
+pub returns-then-is_empty-clause-line : goal.returns-then-is_empty-clause-line
+returns-then-is_empty-clause-line c raw =
+    none_open c.args.rules c.args.bare c.args.open_text raw c.args.frames.now (seen_view c.args.line.now.rest) (sym c.is_empty.ensures ∙ c.if-is_empty.true)
 
 pub returns-in-Leaves-clause-line : goal.returns-in-Leaves-clause-line
 returns-in-Leaves-clause-line c = λ raw.

@@ -12,8 +12,8 @@ use Rattle.cm_block.proofs.text_runs.next_line.Goals as goal
 pub returns-in-Blank-clause-next : goal.returns-in-Blank-clause-next
 returns-in-Blank-clause-next c = ends_blank _ c.args.source.now (seen_view c.args.line.now.rest) c.in-Blank.ensures.look
 
-pub returns-in-Letter-clause-next : goal.returns-in-Letter-clause-next
-returns-in-Letter-clause-next c = c.in-Letter.ensures.look c.args.rules c.args.source.now
+pub returns-in-Text-clause-next : goal.returns-in-Text-clause-next
+returns-in-Text-clause-next c = c.in-Text.ensures.look c.args.rules c.args.source.now
 
 some : (c : In-Other) → is_blank (seen_view c.args.line.now.rest) ≡ false
 some c = c.in-Other.ensures.look

@@ -2,15 +2,15 @@ use Rattle.std.proofs.Common.{◌≡◌, [], ◌++◌, ap₂, ◌∙◌}
 use Rattle.cm_text.specs.Lines.{LineView}
 use Rattle.cm_text.specs.Views.{seen_view}
 use Rattle.cm_block.proofs.lemmas.FeedLemmas.{feeds_of_first}
-use Rattle.cm_block.proofs.lemmas.LeafLemmas.{is_nothing, code_begins}
+use Rattle.cm_block.proofs.lemmas.LeafLemmas.{no_text, code_begins}
 use Rattle.cm_block.proofs.counted_line.first_line.begin_code.Goals as goal
 
-pub returns-clause-leaf : goal.returns-clause-leaf
-returns-clause-leaf c by =
+pub returns : goal.returns
+returns c by =
     let text = c.args.leaf.now.text in
-    let empty : text ≡ [] = c.args.leaf.now.empty (is_nothing _ text c.requires) in
-    code_begins by c.push_line.new.text c.new.result (seen_view c.args.line.now)
+    let empty : text ≡ [] = no_text c.args.leaf.now c.requires in
+    code_begins by c.push_line.new.text c.clear.new.self (seen_view c.args.line.now)
     (c.in_ok-push_line.ensures ∙ ap₂ (λ t (l : LineView). t ++ l.text) empty c.strip.ensures.line)
     (feeds_of_first c.push_line.new.text text c.strip.result.spaces c.strip.result.rest.now
     empty c.in_ok-push_line.ensures c.strip.result.one_line)
-    c.new.ensures
+    c.clear.ensures

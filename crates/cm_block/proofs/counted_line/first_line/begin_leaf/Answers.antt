@@ -7,19 +7,14 @@ use Rattle.cm_block.proofs.counted_line.first_line.begin_leaf.Goals as goal
 pub returns-in_ok-begin_run-in-TextLine-clause-leaf : goal.returns-in_ok-begin_run-in-TextLine-clause-leaf
 returns-in_ok-begin_run-in-TextLine-clause-leaf c =
     let line = seen_view c.args.line.now in
-    c.in_ok-begin_run-in-TextLine.ensures.leaf c.args.rules ∙ ap (λ s. begin_of_start c.args.rules (seen s) line) (sym c.in-TextLine.is)
-
-pub returns-in_ok-heading_of-in-Atx-clause-leaf : goal.returns-in_ok-heading_of-in-Atx-clause-leaf
-returns-in_ok-heading_of-in-Atx-clause-leaf c =
-    let line = seen_view c.args.line.now in
-    c.in_ok-heading_of-in-Atx.ensures c.args.rules line ∙ ap (λ s. begin_of_start c.args.rules (seen s) line) (sym c.in-Atx.is)
+    c.in_ok-begin_run-in-TextLine.ensures c.args.rules ∙ ap (λ s. begin_of_start c.args.rules (seen s) line) (sym c.in-TextLine.is)
 
 pub returns-in_ok-begin_code-in-IndentedCode-clause-leaf : goal.returns-in_ok-begin_code-in-IndentedCode-clause-leaf
 returns-in_ok-begin_code-in-IndentedCode-clause-leaf c =
     let line = seen_view c.args.line.now in
-    c.in_ok-begin_code-in-IndentedCode.ensures.leaf c.args.rules ∙ ap (λ s. begin_of_start c.args.rules (seen s) line) (sym c.in-IndentedCode.is)
+    c.in_ok-begin_code-in-IndentedCode.ensures c.args.rules ∙ ap (λ s. begin_of_start c.args.rules (seen s) line) (sym c.in-IndentedCode.is)
 
 pub returns-in_ok-begin_html-in-Html-clause-leaf : goal.returns-in_ok-begin_html-in-Html-clause-leaf
 returns-in_ok-begin_html-in-Html-clause-leaf c =
     let line = seen_view c.args.line.now in
-    c.in_ok-begin_html-in-Html.ensures.leaf c.args.rules ∙ ap (λ s. begin_of_start c.args.rules (seen s) line) (sym c.in-Html.is)
+    c.in_ok-begin_html-in-Html.ensures c.args.rules ∙ ap (λ s. begin_of_start c.args.rules (seen s) line) (sym c.in-Html.is)

@@ -1,32 +1,33 @@
-use Rattle.std.proofs.Common.{[], suc, string_bytes, sym, ap, ◌∙◌, refl}
+use Rattle.std.proofs.Common.{[], suc, string_bytes, ap, ◌∙◌, refl}
 use Rattle.std.proofs.lemmas.Result.{on_ok_weaker}
 use Rattle.cm_scan.specs.blocks.Parts.{leaf_block, code, html}
 use Rattle.cm_scan.specs.blocks.Blocks.{line_feeds}
 use Rattle.cm_block.specs.Level.{block_closes}
 use Rattle.cm_block.specs.Stack.{close_leaves, own_leaves}
 use Rattle.cm_block.specs.LeafViews.{ended}
-use Rattle.cm_block.specs.steps.LeafSteps.{fence_lines, leaves_with, own_plain_leaf}
+use Rattle.cm_block.specs.steps.LeafSteps.{fence_lines, own_plain_leaf}
+use Rattle.cm_block.proofs.lemmas.LeafLemmas.{leaves_by_kind}
 use Rattle.cm_block.proofs.lemmas.PutLemmas.{none_closes, none_owns, one_closes, one_owns}
 use Rattle.cm_block.proofs.open_leaf.OpenLeaf.put.Goals as goal
 
 pub returns-in-Nothing-clause-level : goal.returns-in-Nothing-clause-level
 returns-in-Nothing-clause-level c =
     let level = c.args.stack.now.level in
-    none_closes level ∙ ap (λ k. close_leaves level (leaves_with c.args.heading c.args.ended k c.args.self.now.text)) (sym c.in-Nothing.is)
+    none_closes level ∙ ap (close_leaves level) (leaves_by_kind c.args.heading c.args.ended c.args.self.now _ c.in-Nothing.is)
 
 pub returns-in-Nothing-clause-owners : goal.returns-in-Nothing-clause-owners
 returns-in-Nothing-clause-owners c =
     let owned = c.args.owners.now in
-    none_owns owned ∙ ap (λ k. own_leaves owned (leaves_with c.args.heading c.args.ended k c.args.self.now.text)) (sym c.in-Nothing.is)
+    none_owns owned ∙ ap (own_leaves owned) (leaves_by_kind c.args.heading c.args.ended c.args.self.now _ c.in-Nothing.is)
 
 pub returns-in-Run-clause-level : goal.returns-in-Run-clause-level
 returns-in-Run-clause-level c =
-    on_ok_weaker c.put_run.result (λ put. put ∙ ap (λ k. close_leaves c.args.stack.now.level (leaves_with c.args.heading c.args.ended k c.args.self.now.text)) (sym c.in-Run.is))
+    on_ok_weaker c.put_run.result (λ put. put ∙ ap (close_leaves c.args.stack.now.level) (leaves_by_kind c.args.heading c.args.ended c.args.self.now _ c.in-Run.is))
     c.put_run.ensures.level
 
 pub returns-in-Run-clause-owners : goal.returns-in-Run-clause-owners
 returns-in-Run-clause-owners c =
-    on_ok_weaker c.put_run.result (λ put. put ∙ ap (λ k. own_leaves c.args.owners.now (leaves_with c.args.heading c.args.ended k c.args.self.now.text)) (sym c.in-Run.is))
+    on_ok_weaker c.put_run.result (λ put. put ∙ ap (own_leaves c.args.owners.now) (leaves_by_kind c.args.heading c.args.ended c.args.self.now _ c.in-Run.is))
     c.put_run.ensures.owners
 
 pub returns-in-Code-clause-level : goal.returns-in-Code-clause-level
@@ -36,7 +37,7 @@ returns-in-Code-clause-level c =
     on_ok_weaker c.put_indented.result (λ put.
     put
     ∙ one_closes level (code [] (ended text)) (suc (line_feeds text))
-    ∙ ap (λ k. close_leaves level (leaves_with c.args.heading c.args.ended k text)) (sym c.in-Code.is)) c.put_indented.ensures.level
+    ∙ ap (close_leaves level) (leaves_by_kind c.args.heading c.args.ended c.args.self.now _ c.in-Code.is)) c.put_indented.ensures.level
 
 pub returns-in-Code-clause-owners : goal.returns-in-Code-clause-owners
 returns-in-Code-clause-owners c =
@@ -45,19 +46,19 @@ returns-in-Code-clause-owners c =
     on_ok_weaker c.put_indented.result (λ put.
     put
     ∙ one_owns owned (code [] (ended text)) (suc (line_feeds text)) refl
-    ∙ ap (λ k. own_leaves owned (leaves_with c.args.heading c.args.ended k text)) (sym c.in-Code.is)) c.put_indented.ensures.owners
+    ∙ ap (own_leaves owned) (leaves_by_kind c.args.heading c.args.ended c.args.self.now _ c.in-Code.is)) c.put_indented.ensures.owners
 
 pub returns-in_ok-lines-in-Fence-clause-level : goal.returns-in_ok-lines-in-Fence-clause-level
 returns-in_ok-lines-in-Fence-clause-level c =
     let level = c.args.stack.now.level in
     let text = c.args.self.now.text in
-    let info = string_bytes c.in-Fence.info in
+    let info = string_bytes c.args.self.now.info in
     on_ok_weaker c.put_code.result (λ put.
     put
     ∙ ap (λ i. block_closes level (leaf_block (code i c.as_str.result.now))) c.deref.ensures
     ∙ ap (λ t. block_closes level (leaf_block (code info t))) c.as_str.ensures
     ∙ one_closes level (code info text) (fence_lines c.args.ended text)
-    ∙ ap (λ k. close_leaves level (leaves_with c.args.heading c.args.ended k text)) (sym c.in-Fence.is)) c.put_code.ensures.level
+    ∙ ap (close_leaves level) (leaves_by_kind c.args.heading c.args.ended c.args.self.now _ c.in-Fence.is)) c.put_code.ensures.level
 
 pub returns-in_ok-lines-in-Fence-clause-owners : goal.returns-in_ok-lines-in-Fence-clause-owners
 returns-in_ok-lines-in-Fence-clause-owners c =
@@ -66,8 +67,8 @@ returns-in_ok-lines-in-Fence-clause-owners c =
     on_ok_weaker c.put_code.result (λ put.
     put
     ∙ ap (own_plain_leaf owned) c.in_ok-lines-in-Fence.ensures
-    ∙ one_owns owned (code (string_bytes c.in-Fence.info) text) (fence_lines c.args.ended text) refl
-    ∙ ap (λ k. own_leaves owned (leaves_with c.args.heading c.args.ended k text)) (sym c.in-Fence.is)) c.put_code.ensures.owners
+    ∙ one_owns owned (code (string_bytes c.args.self.now.info) text) (fence_lines c.args.ended text) refl
+    ∙ ap (own_leaves owned) (leaves_by_kind c.args.heading c.args.ended c.args.self.now _ c.in-Fence.is)) c.put_code.ensures.owners
 
 pub returns-in-Html-clause-level : goal.returns-in-Html-clause-level
 returns-in-Html-clause-level c =
@@ -76,7 +77,7 @@ returns-in-Html-clause-level c =
     on_ok_weaker c.put_html.result (λ put.
     put
     ∙ one_closes level (html (ended text)) (suc (line_feeds text))
-    ∙ ap (λ k. close_leaves level (leaves_with c.args.heading c.args.ended k text)) (sym c.in-Html.is)) c.put_html.ensures.level
+    ∙ ap (close_leaves level) (leaves_by_kind c.args.heading c.args.ended c.args.self.now _ c.in-Html.is)) c.put_html.ensures.level
 
 pub returns-in-Html-clause-owners : goal.returns-in-Html-clause-owners
 returns-in-Html-clause-owners c =
@@ -85,4 +86,4 @@ returns-in-Html-clause-owners c =
     on_ok_weaker c.put_html.result (λ put.
     put
     ∙ one_owns owned (html (ended text)) (suc (line_feeds text)) refl
-    ∙ ap (λ k. own_leaves owned (leaves_with c.args.heading c.args.ended k text)) (sym c.in-Html.is)) c.put_html.ensures.owners
+    ∙ ap (own_leaves owned) (leaves_by_kind c.args.heading c.args.ended c.args.self.now _ c.in-Html.is)) c.put_html.ensures.owners

@@ -1,6 +1,6 @@
 use Rattle.std.proofs.Common.{◌≡◌, ◌≤◌, ◌-◌, length, drop, take}
 use Rattle.cm_block.specs.steps.FrameSteps.{close_frames}
-use Rattle.cm_block.proofs.stack.Stack.close_to.Given as goal
+use Rattle.cm_block.proofs.stack.Stack.close_behind.Given as goal
 
 -- the first containers are still open, and closing the rest comes to the same level
 abbrev pub invariant-loop-self : goal.invariant-loop-self
