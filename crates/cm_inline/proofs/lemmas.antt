@@ -1,55 +1,84 @@
 -- How the proof of cm_inline goes:
 --
--- - Reading. Reading on from a place after the nodes so far gives the items of the whole source, each text in
---   pieces of a byte (`ahead` in specs/steps/Reads.antt, WholeLemmas). Text before anything is one step of
---   that; each atom is another, with a lemma for each byte that starts one (AtomLemmas). However texts are
---   cut, they settle to the same.
--- - Brackets. Each `]` is a third kind of step. The brackets among the nodes are a stack whose last is the
---   nearest opener (BracketLemmas). What they leave keeps all that is known of the nodes
---   (specs/steps/Brackets.antt, ReaderLemmas).
--- - Groups. `Nodes` has tokens, and groups of them by number. What a group comes to is computed from the
---   groups before it (`groups_made` in specs/steps/Groups.antt), so it stays the same when others follow
---   (GroupLemmas, HeldLemmas). Everything that is proved of reading and pairing is about the nodes that
---   tokens represent (specs/steps/Nodes.antt).
--- - Pairs. They are made in one pass (PassingLemmas), which cm_scan proves to be repeated pairing. The nodes
---   before a closer are in a `Vec`, and the list holds the runs among them that may open
---   (specs/steps/Openers.antt). For each kind of closer there is a number below which no entry opens for it
---   (BottomLemmas, SearchLemmas). Looks are paid for by what each run brings (ReserveLemmas).
--- - Depth. What is finished stays, so inlines that nest too deep are known as soon as they are made
---   (DeeperLemmas). They nest at most one deeper than there are groups, so the whole is checked only if a
---   leaf has as many groups as the limit (`held-depth` in HeldLemmas).
+-- - Reading. Reading on from a place after the items so far gives the items of the whole source, each text
+--   in pieces of a byte (`ahead` in specs/steps/Reads.antt, WholeLemmas). Text up to the next atom is one
+--   step of that; an atom is another, with a lemma for each byte that starts one (AtomLemmas, ReaderLemmas);
+--   a `]` is a third (RightBracketLemmas, ClosedLinkLemmas).
+-- - Segments. The code holds no items. Its marks and the text around them are parts (specs/steps/Marks.antt),
+--   and its runs and pairs turn parts into events: texts, inlines, starts and ends
+--   (specs/steps/pairing/Parts.antt, Events.antt). A segment is an item with the parts that stand for it:
+--   wherever these events are, they make the same inlines as the item, write the same HTML and nest as deep
+--   (`StandFor` in specs/steps/pairing/Readings.antt, EventLemmas, ReadingLemmas).
+-- - Brackets. Open brackets are levels among the segments (`AreOpen` in specs/steps/Brackets.antt,
+--   OpenLemmas). A `]` makes one segment of the last level, or leaves its bracket as text (BracketLemmas).
+-- - Pairs. They are made in one pass over the runs that wait, which cm_scan proves to be repeated pairing. A
+--   pair adds a start at its opener and an end at its closer, and moves nothing (PartLemmas, ClosingLemmas,
+--   PassLoopLemmas); what is before it stays as it was (KeptLemmas). For each kind of closer
+--   there is a number below which no entry opens for it (BottomLemmas, SearchLemmas). Looks are paid for by
+--   what each run brings (ReserveLemmas, PaysLemmas).
+-- - Depth. What is finished stays, so a leaf nests too deep as soon as something in it does (DeeperLemmas).
+--   It nests at most one deeper than it has pairs and links (`IsNear`), so the whole is checked only if they
+--   are as many as the limit (NestingLemmas).
+-- - The end. All segments of a source that is read to its end stand for its items, with all pairs made
+--   (SettledLemmas, OutcomeLemmas). The walks over the marks write (WriteLemmas, TextWaitLemmas) and build
+--   (BuildLemmas, SettleLemmas) what their events do.
 -- - Lines of text. Nothing pairs among them, and they write their own text (PlainLemmas).
+pub mod InlineDepthLemmas
+pub mod NumberLemmas
 pub mod BottomLemmas
-pub mod ListedLemmas
-pub mod EntryLinkLemmas
-pub mod UpdateLemmas
+pub mod ReserveLemmas
 pub mod SearchLemmas
 pub mod StepLemmas
-pub mod BetweenLemmas
-pub mod ReserveLemmas
-pub mod OpenerLemmas
-pub mod NodeLemmas
-pub mod HtmlLemmas
-pub mod DepthLemmas
-pub mod PairLemmas
-pub mod AtomLemmas
-pub mod SliceLemmas
-pub mod PlainLemmas
-pub mod TextLemmas
-pub mod BracketLemmas
-pub mod CodeLemmas
 pub mod EmphasisLemmas
-pub mod GroupLemmas
-pub mod PassingLemmas
-pub mod SettlingLemmas
-pub mod PlacedLemmas
-pub mod HeldLemmas
+pub mod CloserLemmas
+pub mod EventLemmas
+pub mod ReadingLemmas
+pub mod StackLemmas
+pub mod PartLemmas
+pub mod WaitLemmas
+pub mod ClosingLemmas
+pub mod SegmentLemmas
+pub mod PassLemmas
+pub mod OpenerLemmas
+pub mod StateLemmas
+pub mod PairDepthLemmas
+pub mod CloserLoopLemmas
+pub mod KeptLemmas
+pub mod ReachLemmas
+pub mod PassLoopLemmas
+pub mod CallerLemmas
+pub mod DepthLemmas
+pub mod TextLemmas
+pub mod PlainLemmas
+pub mod CodeLemmas
 pub mod MissingEndsLemmas
-pub mod DeeperLemmas
-pub mod KeepsLemmas
 pub mod LabelLemmas
 pub mod LinkLemmas
+pub mod DeeperLemmas
+pub mod StandaloneLemmas
+pub mod SliceLemmas
+pub mod StandLemmas
+pub mod AllowanceLemmas
+pub mod AtomLemmas
+pub mod BracketLemmas
+pub mod JoinLemmas
+pub mod OpenLemmas
+pub mod KeepsLemmas
+pub mod WholeLemmas
 pub mod PaysLemmas
 pub mod ReaderLemmas
-pub mod WholeLemmas
-pub mod StandaloneLemmas
+pub mod ClosedLinkLemmas
+pub mod ClosingBracketLemmas
+pub mod SettledLemmas
+pub mod RightBracketLemmas
+pub mod HtmlLemmas
+pub mod LaidLemmas
+pub mod WriteLemmas
+pub mod TagLemmas
+pub mod RunLemmas
+pub mod MarkLemmas
+pub mod TextWaitLemmas
+pub mod BuildLemmas
+pub mod SettleLemmas
+pub mod NestingLemmas
+pub mod OutcomeLemmas

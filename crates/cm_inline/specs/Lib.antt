@@ -1,3 +1,4 @@
+pub mod Closers
 pub mod Emphases
 pub mod Reading
 pub mod steps

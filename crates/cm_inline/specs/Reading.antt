@@ -1,23 +1,24 @@
 -- What reading the inlines of a leaf returns (CommonMark 0.31.2, chapter 6).
-use Rattle.std.specs.Prelude.{◌≡◌, ℕ, ◌*◌, ◌^◌, ◌≤◌, true, false, if◌then◌else◌, List, length, Result, Ok, Err, ⊤}
+use Rattle.std.specs.Prelude.{◌≡◌, ℕ, ◌+◌, ◌*◌, ◌^◌, ◌≤◌, true, false, List, length, Result, Ok, Err, ⊤}
 use Rattle.cm_text.specs.Rules.{Rules}
 use Rattle.cm_tree.specs.Definitions.{Targets}
 use Rattle.cm_tree.specs.declared.tree.Inline.{Inline}
 use Rattle.cm_scan.specs.inlines.Brackets.{Defined, defined_in}
 use Rattle.cm_scan.specs.inlines.Inlines.{inlines_of, nests_past}
 use Rattle.cm_scan.specs.inlines.DelimiterRuns.{runs_of, characters_of}
+use Rattle.cm_inline.specs.Closers.{kinds_by}
 use Rattle.cm_inline.specs.Emphases.{emphases}
 use Rattle.cm_inline.specs.declared.fault.InlineFault.{InlineFault}
 use Rattle.cm_inline.specs.declared.fault.InlineFault.TheVariants.{InlinesTooDeep, NoMemory, SourceTooLong}
 use Rattle.cm_inline.specs.declared.reading.Steps.{Steps}
 
--- The most openers that are looked at for each character of a delimiter run: one in vain for each of the twelve kinds of closers, and
--- one more with strikethrough, whose runs are a kind of their own; one if it is taken out between a pair; and one for a pair.
+-- The most openers that are looked at for each character of a delimiter run: one in vain for each kind of closer, one if it is taken out
+-- between a pair, and one for a pair.
 abbrev pub looks_at_most : Rules → ℕ
-looks_at_most rules = if rules.strike then 15 else 14
+looks_at_most rules = kinds_by rules + 2
 
--- The inlines of a source, which don't nest past the limit. For each character of its delimiter runs at most fourteen openers were
--- looked at, or fifteen with strikethrough, and at least one for each emphasis, strong emphasis or strikethrough that was made.
+-- The inlines of a source, which don't nest past the limit. For each character of its delimiter runs at most this number of openers were
+-- looked at, and at least one for each emphasis, strong emphasis or strikethrough that was made.
 pub record Read (rules : Rules) (defined : Defined) (limit : ℕ) (source : List ℕ) (answer : List Inline × Steps) : Type 0 where
   pub content : answer.0 ≡ inlines_of rules defined source
   pub within : nests_past rules defined limit source ≡ false

@@ -1,73 +1,81 @@
 //! The alternative text of images, as HTML has it. It is written from the source.
-ghost use Rattle.std.specs.Prelude.{◌≡◌, ◌++◌, OnOk};
-ghost use Rattle.cm_html.specs.Escape.{escape};
-ghost use Rattle.cm_html.specs.Html.{rendered};
-ghost use Rattle.cm_inline.specs.steps.Groups.{grouped, node_among, made_among, IsAmong, IsGroupAmong};
-ghost use Rattle.cm_inline.specs.steps.Nodes.{node_plain};
-ghost use Rattle.cm_inline.specs.steps.Standalone.{standalone_plain, IsWithin};
+ghost use Rattle.std.specs.Prelude.{◌≡◌, ℕ, ◌<◌, false, IfOk, OnOk};
+ghost use Rattle.cm_tree.specs.Definitions.{Targets};
+ghost use Rattle.cm_inline.specs.steps.pairing.Readings.{Alternative, page};
+ghost use Rattle.cm_inline.specs.steps.Writing.{is_end_of, mark_events, events_after};
+ghost use Rattle.cm_inline.specs.steps.Writing.{Adds, GoesOn, IsMarkIn, IsImageAt};
 
-use crate::groups::{FirstGroups, Group};
-use crate::html_texts::{push_one_line, push_text_of};
-use crate::standalone::{Standalone, part};
-use crate::tokens::Token;
+use crate::brackets::Reader;
+use crate::html_texts::{push_character, push_left, push_one_line};
+use crate::marks::{Kind, Mark, Place, part};
 use cm_html::Pages;
 use std::alloc::AllocError;
 
-/// Adds the part of an inline that contains no other.
-fn push_standalone(html: &mut Pages, source: &str, standalone: Standalone) -> Result<(), AllocError>
-    requires { IsWithin source.now standalone }
-    ensures { OnOk result (html.new ≡ html.old ++ escape (standalone_plain source.now standalone)) }
+/// Adds what a mark contributes.
+fn push_mark(html: &mut Pages, source: &str, reader: &Reader, mark: Mark) -> Result<(), AllocError>
+    requires { (targets : Targets) × IsMarkIn source.now targets reader.now mark }
+    ensures { OnOk result ((link : ℕ) (targets : Targets) → is_end_of link mark.kind ≡ false
+        → IsMarkIn source.now targets reader.now mark
+        → Adds (Alternative link) html.old (mark_events source.now targets reader.now mark) html.new) }
 {
-    match standalone {
-        Standalone::Code { from, to } => push_one_line(html, part(source, from, to)),
-        Standalone::Html { from, to } => html.push_escaped(part(source, from, to)),
-        Standalone::Autolink { from, to, .. } => html.push_escaped(part(source, from, to)),
-        Standalone::Soft => html.push_str(" "),
-        Standalone::Hard => html.push_str(" "),
+    match mark.kind {
+        Kind::Plain => html.push_escaped(part(source, mark.at, mark.end)),
+        Kind::Escaped => html.push_escaped(part(source, mark.at, mark.end)),
+        Kind::Nothing => Ok(()),
+        Kind::Character(character) => push_character(html, character),
+        Kind::Code { from, to } => push_one_line(html, part(source, from, to)),
+        Kind::Html => html.push_escaped(part(source, mark.at, mark.end)),
+        Kind::Autolink { .. } => html.push_escaped(part(source, mark.at + 1, mark.end - 1)),
+        Kind::Soft => html.push_str(" "),
+        Kind::Hard => html.push_str(" "),
+        Kind::Run { number } => push_left(html, reader.runs.runs[number as usize].run),
+        Kind::Start { .. } => Ok(()),
+        Kind::End { .. } => Ok(()),
     }
 }
 
-/// Adds the part of a token.
-#[cycle(alternative_text)]
-fn push_token(
-    html: &mut Pages,
-    source: &str,
-    inside: &[Token],
-    groups: &FirstGroups<'_>,
-    token: Token,
-) -> Result<(), AllocError>
-    requires { IsAmong source.now inside.now groups.now token }
-    ensures { OnOk result (html.new
-        ≡ html.old ++ escape (node_plain source.now (node_among inside.now groups.now token))) }
+/// Whether a mark is the end of the link or image with this number.
+fn is_end(mark: Mark, link: u32) -> bool
+    ensures { result ≡ is_end_of link mark.kind }
 {
-    match token {
-        Token::Whole(standalone) => push_standalone(html, source, standalone),
-        Token::Made { number, .. } => push_alternative_text(
-            html,
-            source,
-            inside,
-            &groups.up_to(number as usize),
-            groups.get(number as usize),
-        ),
-        _ => push_text_of(html, source, token),
+    match mark.kind {
+        Kind::End { number } => number == link,
+        _ => false,
     }
 }
 
-/// Adds the part of a group, which holds groups before it. That of an image itself is its alternative text.
-#[cycle(alternative_text)]
+/// Adds the alternative text of the image with this number, whose start is this mark. Returns the place of
+/// its end.
 pub(crate) fn push_alternative_text(
     html: &mut Pages,
     source: &str,
-    inside: &[Token],
-    groups: &FirstGroups<'_>,
-    group: Group<'_>,
-) -> Result<(), AllocError>
-    requires { IsGroupAmong source.now inside.now groups.now (grouped group) }
-    ensures { OnOk result (html.new ≡ html.old ++ escape
-        (rendered (made_among inside.now groups.now (grouped group.entry) source.now)).plain) }
+    reader: &Reader,
+    start: usize,
+    link: u32,
+) -> Result<Place, AllocError>
+    requires { (targets : Targets) × IsImageAt source.now targets reader.now html.old start link }
+    ensures further { IfOk result (λ next. start < next.mark) }
+    ensures html { IfOk result (λ next. (targets : Targets)
+        → IsImageAt source.now targets reader.now html.old start link
+        → GoesOn source.now targets reader.now (page html.old (Alternative link))
+        (events_after source.now targets reader.now start) html.new next) }
 {
-    for token in &inside[group.from..group.to] {
-        push_token(html, source, inside, groups, *token)?;
+    let marks = reader.marks.as_slice();
+    let mut from = marks[start].end;
+    for at in start + 1..marks.len() {
+        let mark = marks[at];
+        push_one_line(html, part(source, from, mark.at))?;
+        if is_end(mark, link) {
+            return Ok(Place {
+                mark: at,
+                from: mark.at as usize,
+            });
+        }
+        push_mark(html, source, reader, mark)?;
+        from = mark.end;
     }
-    Ok(())
+    Ok(Place {
+        mark: marks.len(),
+        from: source.len(),
+    })
 }

@@ -1,44 +1,60 @@
 //! Links and images by their brackets (CommonMark 0.31.2, 6.3 Links, 6.4 Images).
-ghost use Rattle.std.specs.Prelude.{◌≡◌, ◌≢◌, ◌+◌, ◌<◌, ◌≤◌, ◌^◌, ◌++◌, [], ◌∷◌, ◌||◌};
-ghost use Rattle.std.specs.Prelude.{List, drop, length, reverse, not, nat_lt, IfOk, OnOk, IfSome, Err};
-ghost use Rattle.cm_inline.specs.steps.Prelude.{IsCharBoundary, defined_in, bracket_text, InlinesTooDeep};
-ghost use Rattle.cm_inline.specs.steps.Prelude.{led_to, Inline, made_of, target_of, node_of, nodes_in};
-ghost use Rattle.cm_inline.specs.steps.Prelude.{IsNoGroup, items_in, IsOpener, items_depth, Keeps, AreFew};
-ghost use Rattle.cm_inline.specs.steps.Prelude.{Stands, ends_of, found_target, IsReadTo, IsReadWith};
-ghost use Rattle.cm_inline.specs.steps.Prelude.{bracket_in, link_of, link_made, left_as_text, closed_at};
-ghost use Rattle.cm_inline.specs.steps.Prelude.{end_for, right_bracket, SourceTooLong};
+ghost use Rattle.std.specs.Prelude.{◌≡◌, ◌≢◌, ◌+◌, ◌<◌, ◌^◌, ◌++◌, [], ◌∷◌, ◌||◌, if◌then◌else◌};
+ghost use Rattle.std.specs.Prelude.{List, length, set, get_or, not, nat_lt, IfOk, OnOk, IfSome, Err};
+ghost use Rattle.cm_text.specs.Bytes.{right_bracket};
+ghost use Rattle.cm_scan.specs.inlines.Pairing.{pair_all};
+ghost use Rattle.cm_inline.specs.declared.fault.InlineFault.TheVariants.{InlinesTooDeep, SourceTooLong};
+ghost use Rattle.cm_inline.specs.declared.marks.Kind.TheVariants.{Plain, Start, End};
+ghost use Rattle.cm_inline.specs.steps.pairing.Passes.{CanPass, WaitFrom, AllPaired};
+ghost use Rattle.cm_inline.specs.steps.pairing.States.{AreChained, SameRuns};
+ghost use Rattle.cm_inline.specs.steps.pairing.Segments.{Segment, items_in};
+ghost use Rattle.cm_inline.specs.steps.Brackets.{end_for};
+ghost use Rattle.cm_inline.specs.steps.Depths.{items_depth};
+ghost use Rattle.cm_inline.specs.steps.Leaves.{defined_by, ReadingOf, IsTooDeep};
+ghost use Rattle.cm_inline.specs.steps.Links.{ends_of, AreBrackets, IsPlaced};
+ghost use Rattle.cm_inline.specs.steps.Marks.{mark_at};
+ghost use Rattle.cm_inline.specs.steps.Missing.{Knows};
+ghost use Rattle.cm_inline.specs.steps.Reads.{Stands};
+ghost use Rattle.cm_inline.specs.steps.Runs.{runs_in, pairs_in};
 
 use crate::fault::InlineFault;
-use crate::groups::{Kind, Making};
-use crate::links::{FoundTarget, LinkEnd, link_end};
+use crate::leaf::Leaf;
+use crate::links::{LinkEnd, Target, link_end};
+use crate::marks::{Kind, Mark, mark_between};
 use crate::missing_ends::MissingEnds;
-use crate::nodes::Nodes;
-use crate::openers::Openers;
-use crate::pairing::pair_from;
-use crate::tokens::Token;
+use crate::runs::Runs;
 use cm_text::{NoMemory, Rules};
-use cm_tree::{Definitions, LinkTarget};
 use std::alloc::{AllocError, Global};
 
-/// A `[` or `![` that nothing was made of yet: the number of its node, and the place after it.
+/// A `[` or `![` that nothing was made of yet: the number of its mark, the place after it, and how many runs
+/// wait before it.
 #[derive(Clone, Copy, Debug)]
 pub(crate) struct Bracket {
-    pub(crate) node: usize,
+    pub(crate) mark: usize,
     pub(crate) image: bool,
-    pub(crate) behind: usize,
+    pub(crate) end: usize,
+    pub(crate) waiting: usize,
+}
+
+/// A link or an image.
+#[derive(Clone, Copy, Debug)]
+pub(crate) struct Link {
+    pub(crate) image: bool,
+    pub(crate) target: Target,
 }
 
 /// A leaf's source as far as it is read.
 #[derive(Drop)]
 pub(crate) struct Reader {
-    /// What was read.
-    pub(crate) nodes: Nodes,
-    /// The brackets among the nodes that nothing was made of yet.
+    pub(crate) marks: Vec<Mark>,
+    pub(crate) runs: Runs,
+    pub(crate) links: Vec<Link>,
+    /// The brackets that nothing was made of yet.
     pub(crate) brackets: Vec<Bracket>,
-    /// The number of nodes up to the last one that is or contains a link. A `[` followed by such a node makes
-    /// no link.
+    /// The number of marks up to the last one that ends a link. A `[` followed by such a mark makes no link.
     pub(crate) links_end: usize,
-    pub(crate) openers: Openers,
+    /// Whether a line feed with no space before it is wanted as a mark: HTML has it as it is.
+    pub(crate) lines: bool,
     pub(crate) ends: MissingEnds,
 }
 
@@ -46,223 +62,192 @@ impl Reader {
     /// Nothing was read yet. It takes no memory.
     pub(crate) fn new(alloc: Global) -> Reader {
         Reader {
-            nodes: Nodes::new(alloc),
+            marks: Vec::new(alloc),
+            runs: Runs::new(alloc),
+            links: Vec::new(alloc),
             brackets: Vec::new(alloc),
             links_end: 0,
-            openers: Openers::new(alloc),
+            lines: false,
             ends: MissingEnds::of(""),
         }
     }
 
     /// Discards what was read, and starts with another source in the same memory.
-    pub(crate) fn restart(&mut self, source: &str)
-        requires { length source.now < 2 ^ 32 }
-        ensures read { IsReadTo source.now 0 self.new }
-        ensures nodes { nodes_in self.new.nodes ≡ [] }
-        ensures looks { self.new.openers.list.looks ≡ 0 }
+    pub(crate) fn restart(&mut self, source: &str, lines: bool)
+        ensures marks { self.new.marks.items ≡ [] }
+        ensures runs { self.new.runs.runs.items ≡ [] }
+        ensures waiting { self.new.runs.waiting.items ≡ [] }
+        ensures pairs { self.new.runs.pairs.items ≡ [] }
+        ensures looks { self.new.runs.openers.looks ≡ 0 }
+        ensures links { self.new.links.items ≡ [] }
+        ensures brackets { self.new.brackets.items ≡ [] }
+        ensures links_end { self.new.links_end ≡ 0 }
+        ensures lines { self.new.lines ≡ lines }
+        ensures knows { Knows source.now self.new.ends }
     {
-        self.nodes.clear();
+        self.marks.clear();
+        self.runs.restart();
+        self.links.clear();
         self.brackets.clear();
         self.links_end = 0;
-        self.openers.list.restart();
+        self.lines = lines;
         self.ends = MissingEnds::of(source);
     }
 
-    /// Adds a token that was read.
+    /// Adds a mark between two places.
     #[inline(always)]
-    pub(crate) fn add(&mut self, token: Token) -> Result<(), AllocError>
-        requires { IsNoGroup token }
-        ensures nodes { OnOk result (nodes_in self.new.nodes
-            ≡ nodes_in self.old.nodes ++ node_of [] token ∷ []) }
-        ensures brackets { OnOk result (self.new.brackets.items
-            ≡ self.old.brackets.items ++ bracket_in (length (nodes_in self.old.nodes)) (node_of [] token)) }
-        ensures inside { self.new.nodes.inside ≡ self.old.nodes.inside }
-        ensures same { (self.new.links_end ≡ self.old.links_end)
-            × (self.new.openers ≡ self.old.openers) × (self.new.ends ≡ self.old.ends) }
+    pub(crate) fn add(&mut self, at: usize, end: usize, kind: Kind) -> Result<(), AllocError>
+        requires at { at < 2 ^ 32 }
+        requires end { end < 2 ^ 32 }
+        ensures marks { OnOk result
+            (self.new.marks.items ≡ self.old.marks.items ++ mark_at at end kind ∷ []) }
+        ensures same { (self.new.runs ≡ self.old.runs) × (self.new.links ≡ self.old.links)
+            × (self.new.brackets ≡ self.old.brackets) × (self.new.links_end ≡ self.old.links_end)
+            × (self.new.lines ≡ self.old.lines) × (self.new.ends ≡ self.old.ends) }
     {
-        if let Token::Opener { image, behind } = token {
-            let node = self.nodes.len();
-            self.brackets.push(Bracket {
-                node,
-                image,
-                behind: behind as usize,
-            })?;
-        }
-        self.nodes.push(token)
+        Ok(self.marks.push(mark_between(at, end, kind))?)
     }
 
-    /// What a `]` at a place makes of the nodes, and where it ends.
+    /// Adds `[` or `![`.
+    #[inline(always)]
+    pub(crate) fn open(&mut self, image: bool, at: usize, end: usize) -> Result<(), AllocError>
+        requires at { at < 2 ^ 32 }
+        requires end { end < 2 ^ 32 }
+        ensures marks { OnOk result
+            (self.new.marks.items ≡ self.old.marks.items ++ mark_at at end Plain ∷ []) }
+        ensures brackets { OnOk result (self.new.brackets.items ≡ self.old.brackets.items ++ record {
+          mark = length self.old.marks.items;
+          image = image;
+          end = end;
+          waiting = length self.old.runs.waiting.items;
+        } ∷ []) }
+        ensures same { (self.new.runs ≡ self.old.runs) × (self.new.links ≡ self.old.links)
+            × (self.new.links_end ≡ self.old.links_end) × (self.new.lines ≡ self.old.lines)
+            × (self.new.ends ≡ self.old.ends) }
+    {
+        self.brackets.push(Bracket {
+            mark: self.marks.len(),
+            image,
+            end,
+            waiting: self.runs.waiting.len(),
+        })?;
+        self.add(at, end, Kind::Plain)
+    }
+
+    /// Adds a link or an image.
+    #[inline(always)]
+    fn add_link(&mut self, link: Link) -> Result<(), AllocError>
+        ensures links { OnOk result (self.new.links.items ≡ self.old.links.items ++ link ∷ []) }
+        ensures same { (self.new.marks ≡ self.old.marks) × (self.new.runs ≡ self.old.runs)
+            × (self.new.brackets ≡ self.old.brackets) × (self.new.links_end ≡ self.old.links_end)
+            × (self.new.lines ≡ self.old.lines) × (self.new.ends ≡ self.old.ends) }
+    {
+        Ok(self.links.push(link)?)
+    }
+
+    /// What a `]` at a place makes, and where it ends.
     pub(crate) fn close(
         &mut self,
-        alloc: Global,
         rules: Rules,
-        source: &str,
-        definitions: &Definitions,
-        limit: usize,
+        leaf: Leaf<'_>,
         at: usize,
     ) -> Result<usize, InlineFault>
-        requires stands { Stands source.now at right_bracket }
-        requires read { IsReadTo source.now at self.old }
-        requires few { AreFew self.old.openers.list.looks (items_in source.now self.old.nodes) }
-        ensures read { IfOk result (λ end. IsReadTo source.now end self.new) }
+        requires stands { Stands leaf.source.now at right_bracket }
+        requires reading { ReadingOf rules leaf at self.old }
+        ensures reading { IfOk result (λ end. ReadingOf rules leaf.entry end self.new) }
+        ensures lines { self.new.lines ≡ self.old.lines }
         ensures further { IfOk result (λ end. at < end) }
-        ensures keeps { IfOk result (λ end. Keeps self.old.openers.list.looks
-            (items_in source.now self.old.nodes) self.new.openers.list.looks
-            (items_in source.now self.new.nodes)) }
-        ensures closed { IfOk result (λ end.
-            closed_at rules (defined_in definitions.now) source.now (nodes_in self.old.nodes) at
-            ≡ record {
-              items = reverse (items_in source.now self.new.nodes);
-              rest = drop end source.now;
-            }) }
-        ensures deep { result ≡ Err InlinesTooDeep → limit < items_depth
-            (closed_at rules (defined_in definitions.now) source.now (nodes_in self.old.nodes) at).items }
+        ensures deep { result ≡ Err InlinesTooDeep → IsTooDeep rules leaf.entry }
         ensures short { result ≢ Err SourceTooLong }
     {
         let Some(bracket) = self.brackets.pop() else {
-            self.nodes.push(Token::Piece {
-                from: at as u32,
-                to: (at + 1) as u32,
-            })?;
             return Ok(at + 1);
         };
-        match self.end_behind(alloc, rules, source, definitions, bracket, at)? {
+        match self.end_after(rules, leaf, bracket, at)? {
             Some(link) => {
-                let end = link.end;
-                self.make_link(alloc, source, limit, bracket, &link)?;
-                Ok(end)
+                self.make_link(leaf.limit, bracket, link, at)?;
+                Ok(link.end)
             }
-            None => {
-                self.leave_as_text(source, bracket, at)?;
-                Ok(at + 1)
-            }
+            None => Ok(at + 1),
         }
     }
 
     /// Whether a link follows a bracket, on its own or in an image.
     fn has_link_behind(&self, bracket: Bracket) -> bool
-        ensures { result ≡ nat_lt bracket.node self.now.links_end }
+        ensures { result ≡ nat_lt bracket.mark self.now.links_end }
     {
-        bracket.node < self.links_end
-    }
-
-    /// Whether what is made of a bracket is a link or holds one.
-    fn holds_link(&self, bracket: Bracket) -> bool
-        ensures { result ≡ (not bracket.image || nat_lt bracket.node self.now.links_end) }
-    {
-        !bracket.image || bracket.node < self.links_end
+        bracket.mark < self.links_end
     }
 
     /// What follows the `]` at a place that makes a link or an image of its bracket. Links don't hold links.
-    fn end_behind<'a>(
+    fn end_after(
         &self,
-        alloc: Global,
         rules: Rules,
-        source: &'a str,
-        definitions: &'a Definitions,
+        leaf: Leaf<'_>,
         bracket: Bracket,
         at: usize,
-    ) -> Result<Option<LinkEnd<'a>>, NoMemory>
-        requires opener { IsOpener source.now bracket.image bracket.behind }
-        requires order { bracket.behind ≤ at }
-        requires stands { Stands source.now at right_bracket }
-        ensures ends { IfOk result (λ found. ends_of source.now found
-            ≡ end_for rules (defined_in definitions.now) source.now bracket self.now.links_end at) }
-        ensures place { IfOk result (λ found. IfSome found (λ e. (at < e.end) ×
-            (e.end ≤ length source.now) × IsCharBoundary source.now e.end)) }
+    ) -> Result<Option<LinkEnd>, NoMemory>
+        requires { AreBrackets leaf.source.now bracket.end at }
+        ensures ends { IfOk result (λ found. ends_of leaf.entry found ≡ end_for rules
+            (defined_by leaf.entry) leaf.entry.source.now bracket self.now.links_end at) }
+        ensures place { IfOk result (λ found. IfSome found (λ e. (at < e.end) × IsPlaced leaf.entry e)) }
     {
         if !bracket.image && self.has_link_behind(bracket) {
             return Ok(None);
         }
-        link_end(alloc, rules, source, definitions, bracket.behind, at)
+        link_end(rules, leaf, bracket.end, at)
     }
 
-    /// Makes the link or the image of a bracket and of all that follows it.
+    /// Makes the link or the image of a bracket, the last that was open, and of all that follows it up to the
+    /// `]` at a place, given its target and where it ends.
     fn make_link(
         &mut self,
-        alloc: Global,
-        source: &str,
         limit: usize,
         bracket: Bracket,
-        end: &LinkEnd<'_>,
+        link: LinkEnd,
+        at: usize,
     ) -> Result<(), InlineFault>
-        requires read { IsReadWith source.now end.now.end self.old bracket }
-        requires few { AreFew self.old.openers.list.looks (items_in source.now self.old.nodes) }
-        ensures read { OnOk result (IsReadTo source.now end.now.end self.new) }
-        ensures keeps { OnOk result (Keeps self.old.openers.list.looks
-            (items_in source.now self.old.nodes) self.new.openers.list.looks
-            (items_in source.now self.new.nodes)) }
-        ensures items { OnOk result (items_in source.now self.new.nodes
-            ≡ link_made source.now (nodes_in self.old.nodes) bracket
-            (found_target end.now.target).0 (found_target end.now.target).1) }
-        ensures deep { result ≡ Err InlinesTooDeep
-            → limit < items_depth (link_made source.now (nodes_in self.old.nodes) bracket
-            (found_target end.now.target).0 (found_target end.now.target).1) }
+        requires pass { CanPass bracket.waiting self.old.runs }
+        requires chained { AreChained (runs_in self.old.runs.runs.items)
+            (pairs_in self.old.runs.pairs.items) }
+        requires there { bracket.mark < length self.old.marks.items }
+        requires few { length self.old.links.items < 2 ^ 32 }
+        requires at { at < 2 ^ 32 }
+        requires end { link.end < 2 ^ 32 }
+        ensures marks { OnOk result (self.new.marks.items ≡ set self.old.marks.items bracket.mark
+            (record (get_or self.old.marks.items bracket.mark (mark_at 0 0 Plain))
+            { kind = Start (length self.old.links.items) })
+            ++ mark_at at link.end (End (length self.old.links.items)) ∷ []) }
+        ensures links { OnOk result (self.new.links.items ≡ self.old.links.items
+            ++ record { image = bracket.image; target = link.target } ∷ []) }
+        ensures links_end { OnOk result (self.new.links_end
+            ≡ (if not bracket.image || nat_lt bracket.mark self.old.links_end
+            then length self.old.marks.items + 1 else self.old.links_end)) }
+        ensures same { (self.new.brackets ≡ self.old.brackets) × (self.new.lines ≡ self.old.lines)
+            × (self.new.ends ≡ self.old.ends) }
+        ensures passes { OnOk result ((front inside : List Segment)
+            → WaitFrom bracket.waiting self.old.runs front inside
+            → AllPaired self.old.runs self.new.runs front inside) }
+        ensures runs { OnOk result (SameRuns self.old.runs.runs.items self.new.runs.runs.items) }
+        ensures chained { OnOk result
+            (AreChained (runs_in self.new.runs.runs.items) (pairs_in self.new.runs.pairs.items)) }
+        ensures deep { result ≡ Err InlinesTooDeep → (front inside : List Segment)
+            → WaitFrom bracket.waiting self.old.runs front inside
+            → limit < items_depth (pair_all (items_in inside)) }
         ensures short { result ≢ Err SourceTooLong }
     {
-        let holds_link = self.holds_link(bracket);
-        // How many nodes there are bounds the place of one.
-        let _nodes = self.nodes.len();
-        let first = bracket.node + 1;
-        pair_from(limit, &mut self.nodes, &mut self.openers, first)?;
-        let depth = self.nodes.depth_behind(bracket.node);
-        if depth >= limit {
-            return Err(InlineFault::InlinesTooDeep);
-        }
-        let making = making_of(bracket.image, end);
-        self.nodes
-            .wrap(bracket.node, None, making, depth + 1, holds_link)?;
+        let holds_link = !bracket.image || self.has_link_behind(bracket);
+        self.runs.pair_from(bracket.waiting, limit)?;
+        let number = self.links.len() as u32;
+        self.add_link(Link {
+            image: bracket.image,
+            target: link.target,
+        })?;
+        self.marks[bracket.mark].kind = Kind::Start { number };
+        self.add(at, link.end, Kind::End { number })?;
         if holds_link {
-            self.links_end = self.nodes.len();
+            self.links_end = self.marks.len();
         }
         Ok(())
-    }
-
-    /// Leaves a bracket and the `]` at a place as text.
-    fn leave_as_text(&mut self, source: &str, bracket: Bracket, at: usize) -> Result<(), AllocError>
-        requires stands { Stands source.now at right_bracket }
-        requires read { IsReadWith source.now at self.old bracket }
-        ensures read { OnOk result (IsReadTo source.now (at + 1) self.new) }
-        ensures same { self.new.openers ≡ self.old.openers }
-        ensures items { OnOk result (items_in source.now self.new.nodes
-            ≡ left_as_text source.now (nodes_in self.old.nodes) bracket) }
-    {
-        self.nodes.put_text(
-            bracket.node,
-            bracket.behind - width(bracket.image),
-            bracket.behind,
-        );
-        self.nodes.push(Token::Piece {
-            from: at as u32,
-            to: (at + 1) as u32,
-        })
-    }
-}
-
-/// How many bytes `![` or `[` has.
-fn width(image: bool) -> usize
-    ensures { result ≡ length (bracket_text image) }
-{
-    if image { 2 } else { 1 }
-}
-
-/// What a bracket makes of its content, with this target.
-fn making_of<'a>(image: bool, end: &'a LinkEnd<'_>) -> Making<'a>
-    ensures { (content : List Inline) → made_of result.kind (target_of result) content
-        ≡ link_of image (found_target end.now.target).0 (found_target end.now.target).1 content }
-{
-    Making {
-        kind: if image { Kind::Image } else { Kind::Link },
-        target: target_to(&end.target),
-    }
-}
-
-/// The target of a group that is made.
-fn target_to<'a>(target: &'a FoundTarget<'_>) -> LinkTarget<'a>
-    ensures { led_to result ≡ found_target target.now }
-{
-    match target {
-        FoundTarget::Inline { dest, title } => LinkTarget::Plain { dest, title },
-        FoundTarget::Defined(target) => *target,
     }
 }

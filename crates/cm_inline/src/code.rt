@@ -53,10 +53,10 @@ pub(crate) fn one_line(spare: &mut Spare, text: &str) -> Result<Text, AllocError
     let mut line = spare.string_for(text.len())?;
     let mut rest = text;
     while let Some(at) = memchr(b'\n', rest.as_bytes()) {
-        let (before, behind) = cut_at(rest, at);
+        let (before, after) = cut_at(rest, at);
         line.push_str(before)?;
         line.push(' ')?;
-        rest = behind;
+        rest = after;
     }
     line.push_str(rest)?;
     Ok(Text::from(line))

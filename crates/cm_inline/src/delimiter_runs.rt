@@ -1,10 +1,10 @@
 //! Delimiter runs (CommonMark 0.31.2, 6.2 Emphasis and strong emphasis).
-ghost use Rattle.std.specs.Prelude.{◌≡◌, [], ◌∷◌, ◌<◌, ◌≤◌, ◌&&◌, IfSome};
+ghost use Rattle.std.specs.Prelude.{◌≡◌, [], ◌∷◌, ◌<◌, ◌≤◌, ◌&&◌};
 ghost use Rattle.cm_scan.specs.inlines.Delimiters.{delimiters_match};
-ghost use Rattle.cm_scan.specs.inlines.Pairing.{used, without};
+ghost use Rattle.cm_scan.specs.inlines.Pairing.{used};
+ghost use Rattle.cm_inline.specs.Closers.{all_kinds};
 ghost use Rattle.cm_inline.specs.steps.Searching.{kind};
-ghost use Rattle.cm_inline.specs.steps.Openers.{IsRestOf};
-ghost use Rattle.cm_inline.specs.steps.Runs.{byte_of, run_of, rest_of};
+ghost use Rattle.cm_inline.specs.steps.Runs.{byte_of, run_of};
 
 /// The character of a delimiter run.
 #[derive(Clone, Copy, Debug)]
@@ -63,18 +63,27 @@ pub(crate) fn delimiters_match(closer: DelimiterRun, opener: DelimiterRun) -> bo
             || closer.whole % 3 == 0 && opener.whole % 3 == 0)
 }
 
+/// The kinds of closers of one character, a star or an underscore: by whether they may also open, and by
+/// their length by 3.
+const KINDS_OF_ONE: usize = 2 * 3;
+
+const KINDS_WITHOUT_TILDES: usize = 2 * KINDS_OF_ONE;
+
+/// How many kinds of closers there are. Those of tildes are one kind.
+pub(crate) const KINDS: usize = KINDS_WITHOUT_TILDES + 1;
+
 /// The number of a closer's kind: by its character, whether it may also open, and its length by 3. Closers of
 /// one kind match the same openers.
 #[tactic(auto, unfolding(crate::specs::steps::Searching::kind))]
 pub(crate) fn kind(closer: DelimiterRun) -> usize
     ensures number { result ≡ kind (run_of closer) }
-    ensures thirteen { result < 13 }
+    ensures within { result < all_kinds }
 {
     let by_opening = if closer.opens { 3 } else { 0 };
     match closer.marker {
         Marker::Star => by_opening + (closer.whole % 3) as usize,
-        Marker::Underscore => 6 + by_opening + (closer.whole % 3) as usize,
-        Marker::Tilde => 12,
+        Marker::Underscore => KINDS_OF_ONE + by_opening + (closer.whole % 3) as usize,
+        Marker::Tilde => KINDS_WITHOUT_TILDES,
     }
 }
 
@@ -88,19 +97,4 @@ pub(crate) fn used(opener: DelimiterRun, closer: DelimiterRun) -> u32
     } else {
         1
     }
-}
-
-/// What is left of a run once some of its characters are taken.
-pub(crate) fn without(run: DelimiterRun, count: u32) -> Option<DelimiterRun>
-    requires { 1 ≤ count }
-    ensures rest { rest_of result ≡ without count (run_of run) }
-    ensures fewer { IfSome result (λ rest. IsRestOf rest run) }
-{
-    if run.left <= count {
-        return None;
-    }
-    Some(DelimiterRun {
-        left: run.left - count,
-        ..run
-    })
 }

@@ -1,6 +1,6 @@
 //! Which delimiter runs may open and may close emphasis (CommonMark 0.31.2,
 //! 6.2 Emphasis and strong emphasis).
-ghost use Rattle.std.specs.Prelude.{◌≡◌, ℕ, ◌-◌, ◌<◌, ◌≤◌, ◌^◌, length, take, drop, reverse};
+ghost use Rattle.std.specs.Prelude.{◌≡◌, ◌-◌, ◌<◌, ◌≤◌, ◌^◌, take, drop, reverse};
 ghost use Rattle.std.specs.Str.{IsCharBoundary};
 ghost use Rattle.cm_scan.specs.inlines.Delimiters.{neighbour, is_left_flanking, may_open};
 ghost use Rattle.cm_scan.specs.inlines.Atoms.{run_between};

@@ -1,140 +1,153 @@
 //! Where links and images lead, and where they end (CommonMark 0.31.2, 6.3 Links).
-//!
-//! A destination or title in which nothing is escaped is lent from the source (`unescape_or_lend`), and a
-//! definition's from the table.
-ghost use Rattle.std.specs.Prelude.{◌≡◌, ◌+◌, ◌-◌, ◌<◌, ◌≤◌, ℕ, List, length, drop, IfOk, IfSome};
+ghost use Rattle.std.specs.Prelude.{◌≡◌, ◌+◌, ◌-◌, ◌<◌, drop, IfOk, IfSome};
 ghost use Rattle.std.specs.List.{slice_range};
 ghost use Rattle.std.specs.Str.{IsCharBoundary};
-ghost use Rattle.cm_scan.specs.inlines.Brackets.{closed, after_destination, inline_end, Defined, defined_in};
+ghost use Rattle.cm_scan.specs.inlines.Brackets.{closed, after_destination, inline_end, Defined};
 ghost use Rattle.cm_scan.specs.inlines.Brackets.{target_of, target_between};
 ghost use Rattle.cm_scan.specs.inlines.Brackets.{reference_end, end_if_followed, end_at};
 ghost use Rattle.cm_text.specs.Addresses.{is_followed};
-ghost use Rattle.cm_inline.specs.steps.Links.{ends_of, leads_to, target_by, behind_brackets, AreBrackets};
+ghost use Rattle.cm_text.specs.Unescaping.{unescape};
+ghost use Rattle.cm_inline.specs.steps.Leaves.{defined_by};
+ghost use Rattle.cm_inline.specs.steps.Links.{ends_of, leads_to, target_by, after_brackets};
+ghost use Rattle.cm_inline.specs.steps.Links.{AreBrackets, IsPlaced};
+ghost use Rattle.cm_inline.specs.steps.Standalone.{IsBetween};
 
+use crate::leaf::Leaf;
 use cm_scan::{after_gap, destination, is_blank_next, is_next, label, title};
 use cm_text::{NoMemory, Rules, is_followed, unescape_or_lend};
-use cm_tree::{Definitions, LinkTarget};
-use std::alloc::Global;
-use std::borrow::CowStr;
 
-/// The target of a link or an image: as it is written after it, or a definition's.
-#[derive(Drop)]
-pub(crate) enum FoundTarget<'a> {
-    Inline {
-        dest: CowStr<'a, Global>,
-        title: CowStr<'a, Global>,
+/// The target of a link or an image: the places of its destination and its title as they are written after
+/// it, or the number of a definition.
+#[derive(Clone, Copy, Debug)]
+pub(crate) enum Target {
+    Written {
+        dest: u32,
+        dest_end: u32,
+        title: u32,
+        title_end: u32,
     },
-    Defined(LinkTarget<'a>),
+    Defined {
+        entry: usize,
+    },
 }
 
 /// The target of a link or an image, and the place where it ends.
-#[derive(Drop)]
-pub(crate) struct LinkEnd<'a> {
-    pub(crate) target: FoundTarget<'a>,
+#[derive(Clone, Copy, Debug)]
+pub(crate) struct LinkEnd {
+    pub(crate) target: Target,
     pub(crate) end: usize,
 }
 
-/// What follows the `]` at a place, whose opener ends at `behind`: the target of a link or an image. The end
+/// What follows the `]` at a place, whose opener ends at `after`: the target of a link or an image. The end
 /// of an inline link takes precedence over a reference (6.3 Links). There is neither if the rules don't
 /// follow its address.
-pub(crate) fn link_end<'a>(
-    alloc: Global,
+pub(crate) fn link_end(
     rules: Rules,
-    source: &'a str,
-    definitions: &'a Definitions,
-    behind: usize,
+    leaf: Leaf<'_>,
+    after: usize,
     at: usize,
-) -> Result<Option<LinkEnd<'a>>, NoMemory>
-    requires { AreBrackets source.now behind at }
-    ensures ends { IfOk result (λ found. ends_of source.now found
-        ≡ end_at rules (defined_in definitions.now)
-        (slice_range source.now behind at) (drop (at + 1) source.now)) }
-    ensures place { IfOk result (λ found. IfSome found (λ e. (at < e.end) ×
-        (e.end ≤ length source.now) × IsCharBoundary source.now e.end)) }
+) -> Result<Option<LinkEnd>, NoMemory>
+    requires { AreBrackets leaf.source.now after at }
+    ensures ends { IfOk result (λ found. ends_of leaf.entry found
+        ≡ end_at rules (defined_by leaf.entry)
+        (slice_range leaf.entry.source.now after at) (drop (at + 1) leaf.entry.source.now)) }
+    ensures place { IfOk result (λ found. IfSome found (λ e. (at < e.end) × IsPlaced leaf.entry e)) }
 {
-    if let Some(inline) = inline_end(alloc, rules, source, at + 1)? {
+    if let Some(inline) = inline_end(rules, leaf, at + 1)? {
         return Ok(Some(inline));
     }
-    reference_end(alloc, rules, source, definitions, behind, at)
+    reference_end(rules, leaf, after, at)
 }
 
-/// Whether the rules follow the address of a link or an image.
+/// Whether the rules follow the address of a link or an image, whose destination comes as it is written.
 #[inline(always)]
-fn leads_on(rules: Rules, dest: &str) -> bool
-    ensures { result ≡ is_followed rules dest.now }
+fn leads_on(rules: Rules, leaf: Leaf<'_>, dest: &str) -> Result<bool, NoMemory>
+    ensures { IfOk result (λ leads. leads ≡ is_followed rules (unescape dest.now)) }
 {
-    rules.any_address() || is_followed(rules, dest)
+    if rules.any_address() {
+        return Ok(true);
+    }
+    let dest = unescape_or_lend(leaf.alloc, dest)?;
+    Ok(is_followed(rules, &dest))
 }
 
 /// The end of an inline link to an address that the rules follow: `(`, a
 /// destination and a title or not, and `)`, with gaps between.
-fn inline_end<'a>(
-    alloc: Global,
-    rules: Rules,
-    source: &'a str,
-    at: usize,
-) -> Result<Option<LinkEnd<'a>>, NoMemory>
-    requires { IsCharBoundary source.now at }
-    ensures ends { IfOk result (λ found. ends_of source.now found
-        ≡ end_if_followed rules (inline_end (drop at source.now))) }
-    ensures boundary { IfOk result (λ found. IfSome found (λ e. IsCharBoundary source.now e.end)) }
+fn inline_end(rules: Rules, leaf: Leaf<'_>, at: usize) -> Result<Option<LinkEnd>, NoMemory>
+    requires { IsCharBoundary leaf.source.now at }
+    ensures ends { IfOk result (λ found. ends_of leaf.entry found
+        ≡ end_if_followed rules (inline_end (drop at leaf.entry.source.now))) }
+    ensures place { IfOk result (λ found. IfSome found (λ e. IsPlaced leaf.entry e)) }
 {
-    if !is_next(source.as_bytes(), at, b'(') {
+    let bytes = leaf.source.as_bytes();
+    if !is_next(bytes, at, b'(') {
         return Ok(None);
     }
-    let gap = after_gap(source.as_bytes(), at + 1);
-    match destination(source, gap) {
-        Some((dest, end)) => after_destination(alloc, rules, source, dest, end),
-        None => closed(alloc, rules, source, "", "", at + 1),
-    }
+    let gap = after_gap(bytes, at + 1);
+    let Some((dest, end)) = destination(leaf.source, gap) else {
+        return closed(rules, leaf, (at, at), (at, at), at + 1);
+    };
+    let from = if is_next(bytes, gap, b'<') {
+        gap + 1
+    } else {
+        gap
+    };
+    after_destination(rules, leaf, (from, from + dest.len()), end)
 }
 
 /// What follows a destination: a title that a gap separates from it, or none, and the end.
-fn after_destination<'a>(
-    alloc: Global,
+fn after_destination(
     rules: Rules,
-    source: &'a str,
-    dest: &'a str,
+    leaf: Leaf<'_>,
+    dest: (usize, usize),
     at: usize,
-) -> Result<Option<LinkEnd<'a>>, NoMemory>
-    requires { IsCharBoundary source.now at }
-    ensures ends { IfOk result (λ found. ends_of source.now found
-        ≡ end_if_followed rules (after_destination dest.now (drop at source.now))) }
-    ensures boundary { IfOk result (λ found. IfSome found (λ e. IsCharBoundary source.now e.end)) }
+) -> Result<Option<LinkEnd>, NoMemory>
+    requires dest { IsBetween leaf.source.now dest.0 dest.1 }
+    requires boundary { IsCharBoundary leaf.source.now at }
+    ensures ends { IfOk result (λ found. ends_of leaf.entry found ≡ end_if_followed rules
+        (after_destination (slice_range leaf.entry.source.now dest.0 dest.1)
+        (drop at leaf.entry.source.now))) }
+    ensures place { IfOk result (λ found. IfSome found (λ e. IsPlaced leaf.entry e)) }
 {
-    if !is_blank_next(source.as_bytes(), at) {
-        return closed(alloc, rules, source, dest, "", at);
+    if !is_blank_next(leaf.source.as_bytes(), at) {
+        return closed(rules, leaf, dest, (at, at), at);
     }
-    match title(source, after_gap(source.as_bytes(), at)) {
-        Some((title, end)) => closed(alloc, rules, source, dest, title, end),
-        None => closed(alloc, rules, source, dest, "", at),
+    let gap = after_gap(leaf.source.as_bytes(), at);
+    match title(leaf.source, gap) {
+        Some((title, end)) => closed(rules, leaf, dest, (gap + 1, gap + 1 + title.len()), end),
+        None => closed(rules, leaf, dest, (at, at), at),
     }
 }
 
-/// A gap and `)`, where the rules follow the destination. That and the title come as they are written.
-fn closed<'a>(
-    alloc: Global,
+/// A gap and `)`, where the rules follow the destination. That and the title are places of the source.
+fn closed(
     rules: Rules,
-    source: &'a str,
-    dest: &'a str,
-    title: &'a str,
+    leaf: Leaf<'_>,
+    dest: (usize, usize),
+    title: (usize, usize),
     at: usize,
-) -> Result<Option<LinkEnd<'a>>, NoMemory>
-    requires { IsCharBoundary source.now at }
-    ensures ends { IfOk result (λ found. ends_of source.now found
-        ≡ end_if_followed rules (closed dest.now title.now (drop at source.now))) }
-    ensures boundary { IfOk result (λ found. IfSome found (λ e. IsCharBoundary source.now e.end)) }
+) -> Result<Option<LinkEnd>, NoMemory>
+    requires dest { IsBetween leaf.source.now dest.0 dest.1 }
+    requires title { IsBetween leaf.source.now title.0 title.1 }
+    requires boundary { IsCharBoundary leaf.source.now at }
+    ensures ends { IfOk result (λ found. ends_of leaf.entry found ≡ end_if_followed rules
+        (closed (slice_range leaf.entry.source.now dest.0 dest.1)
+        (slice_range leaf.entry.source.now title.0 title.1) (drop at leaf.entry.source.now))) }
+    ensures place { IfOk result (λ found. IfSome found (λ e. IsPlaced leaf.entry e)) }
 {
-    let end = after_gap(source.as_bytes(), at);
-    if !is_next(source.as_bytes(), end, b')') {
+    let end = after_gap(leaf.source.as_bytes(), at);
+    if !is_next(leaf.source.as_bytes(), end, b')') {
         return Ok(None);
     }
-    let dest = unescape_or_lend(alloc, dest)?;
-    if !leads_on(rules, &dest) {
+    if !leads_on(rules, leaf, &leaf.source[dest.0..dest.1])? {
         return Ok(None);
     }
-    let title = unescape_or_lend(alloc, title)?;
-    let target = FoundTarget::Inline { dest, title };
+    let target = Target::Written {
+        dest: dest.0 as u32,
+        dest_end: dest.1 as u32,
+        title: title.0 as u32,
+        title_end: title.1 as u32,
+    };
     Ok(Some(LinkEnd {
         target,
         end: end + 1,
@@ -143,31 +156,23 @@ fn closed<'a>(
 
 /// The end of a reference: a full one, a collapsed one or a shortcut. There is none if a label follows that
 /// isn't defined, or whose address the rules don't follow.
-fn reference_end<'a>(
-    alloc: Global,
+fn reference_end(
     rules: Rules,
-    source: &'a str,
-    definitions: &'a Definitions,
-    behind: usize,
+    leaf: Leaf<'_>,
+    after: usize,
     at: usize,
-) -> Result<Option<LinkEnd<'a>>, NoMemory>
-    requires { AreBrackets source.now behind at }
-    ensures ends { IfOk result (λ found. ends_of source.now found
-        ≡ end_if_followed rules (reference_end (defined_in definitions.now)
-        (slice_range source.now behind at) (drop (at + 1) source.now))) }
-    ensures boundary { IfOk result (λ found. IfSome found (λ e. IsCharBoundary source.now e.end)) }
+) -> Result<Option<LinkEnd>, NoMemory>
+    requires { AreBrackets leaf.source.now after at }
+    ensures ends { IfOk result (λ found. ends_of leaf.entry found
+        ≡ end_if_followed rules (reference_end (defined_by leaf.entry)
+        (slice_range leaf.entry.source.now after at) (drop (at + 1) leaf.entry.source.now))) }
+    ensures place { IfOk result (λ found. IfSome found (λ e. IsPlaced leaf.entry e)) }
 {
-    if let Some((full, end)) = label(source, at + 1) {
-        return reference(alloc, rules, definitions, full, end);
+    if let Some((full, end)) = label(leaf.source, at + 1) {
+        return reference(rules, leaf, full, end);
     }
-    match label_between(source, behind, at) {
-        Some(between) => reference(
-            alloc,
-            rules,
-            definitions,
-            between,
-            after_brackets(source, at + 1),
-        ),
+    match label_between(leaf.source, after, at) {
+        Some(between) => reference(rules, leaf, between, after_brackets(leaf.source, at + 1)),
         None => Ok(None),
     }
 }
@@ -175,34 +180,33 @@ fn reference_end<'a>(
 /// The target of a reference by a label that ends at a place, if the label is defined and the rules follow
 /// its address, which the table knows.
 #[inline(always)]
-fn reference<'a>(
-    alloc: Global,
+fn reference(
     rules: Rules,
-    definitions: &'a Definitions,
+    leaf: Leaf<'_>,
     label: &str,
     end: usize,
-) -> Result<Option<LinkEnd<'a>>, NoMemory>
-    ensures ends { IfOk result (λ found. (source : List ℕ) → ends_of source found
-        ≡ end_if_followed rules
-        (leads_to (target_of (defined_in definitions.now) label.now) (drop end source))) }
-    ensures end { IfOk result (λ found. IfSome found (λ e. e.end ≡ end)) }
+) -> Result<Option<LinkEnd>, NoMemory>
+    requires { IsCharBoundary leaf.source.now end }
+    ensures ends { IfOk result (λ found. ends_of leaf.entry found ≡ end_if_followed rules
+        (leads_to (target_of (defined_by leaf.entry) label.now) (drop end leaf.entry.source.now))) }
+    ensures place { IfOk result (λ found. IfSome found (λ e. IsPlaced leaf.entry e)) }
 {
-    let Some(target) = definitions.target_by(rules, label)? else {
+    let Some(entry) = leaf.definitions.entry_by(rules, label)? else {
         return Ok(None);
     };
     Ok(Some(LinkEnd {
-        target: FoundTarget::Defined(target),
+        target: Target::Defined { entry },
         end,
     }))
 }
 
 /// The source between the brackets, if it is a link label.
-fn label_between(source: &str, behind: usize, at: usize) -> Option<&str>
-    requires { AreBrackets source.now behind at }
+fn label_between(source: &str, after: usize, at: usize) -> Option<&str>
+    requires { AreBrackets source.now after at }
     ensures { (defined : Defined) → target_by defined result
-        ≡ target_between defined (slice_range source.now behind at) }
+        ≡ target_between defined (slice_range source.now after at) }
 {
-    let (between, end) = label(source, behind - 1)?;
+    let (between, end) = label(source, after - 1)?;
     if end != at + 1 {
         return None;
     }
@@ -212,7 +216,7 @@ fn label_between(source: &str, behind: usize, at: usize) -> Option<&str>
 /// The place after the `[]` of a collapsed reference, or the place itself.
 fn after_brackets(source: &str, at: usize) -> usize
     requires { IsCharBoundary source.now at }
-    ensures rest { drop result source.now ≡ behind_brackets (drop at source.now) }
+    ensures rest { drop result source.now ≡ after_brackets (drop at source.now) }
     ensures boundary { IsCharBoundary source.now result }
 {
     if is_next(source.as_bytes(), at, b'[') && is_next(source.as_bytes(), at + 1, b']') {

@@ -1,22 +1,30 @@
 //! The inlines of a leaf, or their HTML, read from its source.
-ghost use Rattle.std.specs.Prelude.{◌≡◌, ◌≢◌, ◌<◌, ◌≤◌, ◌^◌, ◌&&◌, [], ◌∷◌, ◌++◌, not};
-ghost use Rattle.std.specs.Prelude.{ℕ, true, false, length, string_bytes, IfOk, OnOk, IfErr, IsTrue, Err};
-ghost use Rattle.cm_inline.specs.steps.Prelude.{list_any, Rules, profile, is_marked, is_empty, Text, Defined};
-ghost use Rattle.cm_inline.specs.steps.Prelude.{defined_in, emphasis_of, settled, in_pieces, inlines_depth};
-ghost use Rattle.cm_inline.specs.steps.Prelude.{InlinesTooDeep, inlines_html, Read, Reads, Refused, IsReadTo};
-ghost use Rattle.cm_inline.specs.steps.Prelude.{nodes_in, ArePlaced, items_in, items_of, text_between};
-ghost use Rattle.cm_inline.specs.steps.Prelude.{AreParts, IsAllText, IsTextTo, Pays, ahead, SourceTooLong};
+ghost use Rattle.std.specs.Prelude.{◌≡◌, ◌≢◌, ◌<◌, ◌&&◌, [], ◌∷◌, ◌++◌, not};
+ghost use Rattle.std.specs.Prelude.{true, false, length, IfOk, OnOk, IfErr, IsTrue, Err};
+ghost use Rattle.std.specs.List.{list_any};
+ghost use Rattle.cm_text.specs.Rules.{Rules, profile};
+ghost use Rattle.cm_text.specs.Search.{is_marked};
+ghost use Rattle.cm_tree.specs.declared.tree.Inline.TheVariants.{Text};
+ghost use Rattle.cm_html.specs.Html.{inlines_html};
+ghost use Rattle.cm_scan.specs.Words.{is_empty};
+ghost use Rattle.cm_scan.specs.inlines.Brackets.{Defined, defined_in};
 ghost use Rattle.cm_scan.specs.inlines.Inlines as inlines;
+ghost use Rattle.cm_inline.specs.Reading.{Read, Reads, Refused};
+ghost use Rattle.cm_inline.specs.declared.fault.InlineFault.TheVariants.{InlinesTooDeep, SourceTooLong};
+ghost use Rattle.cm_inline.specs.steps.pairing.Events.{inlines_of};
+ghost use Rattle.cm_inline.specs.steps.pairing.Readings.{Tags, page, write_all};
+ghost use Rattle.cm_inline.specs.steps.Leaves.{ReadingOf, IsTooDeep};
+ghost use Rattle.cm_inline.specs.steps.Marks.{events_in, IsSettled};
+ghost use Rattle.cm_inline.specs.steps.Reads.{IsTextTo, IsAllText};
 
 use crate::atoms::{read_atom, text_end};
 use crate::brackets::Reader;
 use crate::fault::InlineFault;
-use crate::html::push_nodes;
-use crate::inlines_of_nodes::settle;
-use crate::nodes::Nodes;
-use crate::pairing::pair_from;
+use crate::html::push_marks;
+use crate::inlines_of_marks::settle;
+use crate::leaf::Leaf;
+use crate::nesting::nests_past;
 use crate::spare::Spare;
-use crate::tokens::Token;
 use cm_html::Pages;
 use cm_text::{Rules, next_markup};
 use cm_tree::{Block, Definitions, Inline, Items};
@@ -24,94 +32,57 @@ use std::alloc::{AllocError, Global};
 use std::fmt;
 
 /// How many openers the pairing of delimiter runs has looked at: one or more
-/// for each emphasis, strong emphasis and strikethrough that it made, and at
-/// most 14 for each character of the runs, or 15 with strikethrough on.
+/// for each emphasis, strong emphasis and strikethrough that it made, and for
+/// each character of the runs at most two more than there are kinds of closers
+/// (`looks_at_most`).
 #[derive(Clone, Copy, Debug, PartialEq, Eq)]
 pub struct Steps(pub u128);
 
-/// Adds the source between two places as text, if there is any.
-#[inline(always)]
-fn push_text(nodes: &mut Nodes, from: usize, to: usize) -> Result<(), AllocError>
-    requires { to < 2 ^ 32 }
-    ensures nodes { OnOk result (nodes_in nodes.new ≡ nodes_in nodes.old ++ text_between from to) }
-    ensures inside { nodes.new.inside ≡ nodes.old.inside }
-{
-    if from < to {
-        nodes.push(Token::Piece {
-            from: from as u32,
-            to: to as u32,
-        })?;
-    }
-    Ok(())
-}
-
-/// Reads the text between two places and what follows it, and returns where that ends.
+/// Reads what follows the text between two places, and returns where that ends.
 #[inline(always)]
 fn read_on(
-    alloc: Global,
     rules: Rules,
-    source: &str,
-    definitions: &Definitions,
-    limit: usize,
+    leaf: Leaf<'_>,
     reader: &mut Reader,
     text: (usize, usize),
 ) -> Result<usize, InlineFault>
-    requires read { IsReadTo source.now text.0 reader.old }
-    requires text { IsTextTo source.now text.0 text.1 }
-    requires within { text.0 < length source.now }
-    requires pays { Pays rules (defined_in definitions.now) source.now (nodes_in reader.old.nodes) text.0
-        reader.old.openers.list.looks }
-    ensures read { IfOk result (λ end. IsReadTo source.now end reader.new) }
+    requires reading { ReadingOf rules leaf text.0 reader.old }
+    requires text { IsTextTo leaf.source.now text.0 text.1 }
+    requires within { text.0 < length leaf.source.now }
+    ensures reading { IfOk result (λ end. ReadingOf rules leaf.entry end reader.new) }
+    ensures lines { OnOk result (reader.new.lines ≡ reader.old.lines) }
     ensures further { IfOk result (λ end. text.0 < end) }
-    ensures pays { IfOk result (λ end. Pays rules (defined_in definitions.now) source.now
-        (nodes_in reader.new.nodes) end reader.new.openers.list.looks) }
-    ensures ahead { IfOk result (λ end.
-        ahead rules (defined_in definitions.now) source.now (nodes_in reader.new.nodes) end
-        ≡ ahead rules (defined_in definitions.now) source.now (nodes_in reader.old.nodes) text.0) }
-    ensures deep { result ≡ Err InlinesTooDeep → limit < inlines_depth (emphasis_of
-        (ahead rules (defined_in definitions.now) source.now (nodes_in reader.old.nodes) text.0)) }
+    ensures deep { result ≡ Err InlinesTooDeep → IsTooDeep rules leaf.entry }
     ensures short { result ≢ Err SourceTooLong }
 {
-    let (at, end) = text;
-    push_text(&mut reader.nodes, at, end)?;
-    if end == source.len() {
+    let end = text.1;
+    if end == leaf.source.len() {
         return Ok(end);
     }
-    if source.as_bytes()[end] == b']' {
-        return reader.close(alloc, rules, source, definitions, limit, end);
+    if leaf.source.as_bytes()[end] == b']' {
+        return reader.close(rules, leaf, end);
     }
-    Ok(read_atom(alloc, rules, source, end, reader)?)
+    Ok(read_atom(leaf.alloc, rules, leaf.source, end, reader)?)
 }
 
-/// Reads a source to its end, in one pass, from the text at its start on, which ends at a place. Places have
-/// 32 bits.
+/// Reads a source to its end, in one pass, from the text at its start on, which ends at a place.
 fn read_all(
-    alloc: Global,
     rules: Rules,
-    source: &str,
-    definitions: &Definitions,
-    limit: usize,
+    leaf: Leaf<'_>,
     reader: &mut Reader,
     first: usize,
 ) -> Result<(), InlineFault>
-    requires { IsTextTo source.now 0 first }
-    ensures read { OnOk result (IsReadTo source.now (length source.now) reader.new) }
-    ensures pays { OnOk result (Pays rules (defined_in definitions.now) source.now (nodes_in reader.new.nodes)
-        (length source.now) reader.new.openers.list.looks) }
-    ensures items { OnOk result (in_pieces (items_in source.now reader.new.nodes)
-        ≡ in_pieces (inlines.items_of rules (defined_in definitions.now) source.now)) }
-    ensures deep { result ≡ Err InlinesTooDeep
-        → inlines.nests_past rules (defined_in definitions.now) limit source.now ≡ true }
-    ensures long { result ≡ Err SourceTooLong → 2 ^ 32 ≤ length source.now }
+    requires text { IsTextTo leaf.source.now 0 first }
+    requires start { ReadingOf rules leaf 0 reader.old }
+    ensures reading { OnOk result (ReadingOf rules leaf.entry (length leaf.entry.source.now) reader.new) }
+    ensures lines { OnOk result (reader.new.lines ≡ reader.old.lines) }
+    ensures deep { result ≡ Err InlinesTooDeep → IsTooDeep rules leaf.entry }
+    ensures short { result ≢ Err SourceTooLong }
 {
-    if source.len() > u32::MAX as usize {
-        return Err(InlineFault::SourceTooLong);
-    }
-    reader.restart(source);
     let mut text = (0, first);
-    while text.0 < source.len() {
-        let at = read_on(alloc, rules, source, definitions, limit, reader, text)?;
-        text = (at, text_end(source, at));
+    while text.0 < leaf.source.len() {
+        let at = read_on(rules, leaf, reader, text)?;
+        text = (at, text_end(leaf.source, at));
     }
     Ok(())
 }
@@ -138,7 +109,7 @@ fn first_text_end(source: &str) -> usize
 
 /// Whether the text of a source is only separated by line feeds with no space before them. `first` is where
 /// the text at its start ends. Then it is written unchanged, since a soft line break is written as a line
-/// feed.
+/// feed, and nothing in it is escaped.
 fn is_all_text(source: &str, first: usize) -> bool
     requires { IsTextTo source.now 0 first }
     ensures { IsTrue result → IsAllText source.now }
@@ -177,31 +148,43 @@ impl InlineReader {
         }
     }
 
-    /// Reads the nodes of a source, from the text at its start on, and settles them: nothing more is made of
-    /// them. Returns how many openers were looked at.
-    fn read_nodes(
+    /// Reads the marks of a source, from the text at its start on, and makes all pairs: nothing more is made
+    /// of them. Returns how many openers were looked at. `lines` says whether line feeds are wanted as marks.
+    fn read_marks(
         &mut self,
         rules: Rules,
         source: &str,
         definitions: &Definitions,
         limit: usize,
         first: usize,
+        lines: bool,
     ) -> Result<Steps, InlineFault>
         requires { IsTextTo source.now 0 first }
-        ensures parts { OnOk result (AreParts source.now (nodes_in self.new.reader.nodes)) }
-        ensures placed { OnOk result (ArePlaced source.now self.new.reader.nodes.inside) }
+        ensures settled { OnOk result (IsSettled lines source.now definitions.now self.new.reader) }
         ensures read { IfOk result (λ steps. Read rules (defined_in definitions.now) limit source.now
-            (settled (items_in source.now self.new.reader.nodes), steps)) }
+            (inlines_of (events_in source.now definitions.now self.new.reader), steps)) }
+        ensures html { OnOk result
+            ((write_all (page [] Tags) (events_in source.now definitions.now self.new.reader)).html
+            ≡ inlines_html (inlines_of (events_in source.now definitions.now self.new.reader))) }
         ensures refused { IfErr result (λ fault. Refused fault rules definitions.now limit source.now) }
     {
-        let alloc = self.spare.alloc();
+        if source.len() > u32::MAX as usize {
+            return Err(InlineFault::SourceTooLong);
+        }
+        let leaf = Leaf {
+            source,
+            definitions,
+            limit,
+            alloc: self.spare.alloc(),
+        };
         let reader = &mut self.reader;
-        read_all(alloc, rules, source, definitions, limit, reader, first)?;
-        pair_from(limit, &mut reader.nodes, &mut reader.openers, 0)?;
-        if reader.nodes.nest_past(limit) {
+        reader.restart(source, lines);
+        read_all(rules, leaf, reader, first)?;
+        reader.runs.pair_from(0, limit)?;
+        if nests_past(reader, limit) {
             return Err(InlineFault::InlinesTooDeep);
         }
-        Ok(Steps(reader.openers.list.looks()))
+        Ok(Steps(reader.runs.openers.looks()))
     }
 
     /// The inlines of a leaf with this source, whose lines are separated by line feeds, in a document with
@@ -223,8 +206,11 @@ impl InlineReader {
         ensures { Reads result rules definitions.now limit source.now }
     {
         let first = first_text_end(source);
-        let steps = self.read_nodes(rules, source, definitions, limit, first)?;
-        Ok((settle(&mut self.spare, source, &self.reader.nodes)?, steps))
+        let steps = self.read_marks(rules, source, definitions, limit, first, true)?;
+        Ok((
+            settle(&mut self.spare, source, definitions, &self.reader)?,
+            steps,
+        ))
     }
 
     /// The source of a leaf without markup (`is_one_text`) as its one inline.
@@ -265,11 +251,11 @@ impl InlineReader {
     {
         let first = first_text_end(source);
         if is_all_text(source, first) {
-            html.push_escaped(source)?;
+            html.push_str(source)?;
             return Ok(());
         }
-        self.read_nodes(rules, source, definitions, limit, first)?;
-        push_nodes(self.spare.alloc(), html, source, &self.reader.nodes)?;
+        self.read_marks(rules, source, definitions, limit, first, false)?;
+        push_marks(self.spare.alloc(), html, source, definitions, &self.reader)?;
         Ok(())
     }
 }

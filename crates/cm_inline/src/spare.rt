@@ -7,17 +7,19 @@
 ghost use Rattle.std.specs.Prelude.{◌≡◌, [], ◌∷◌, string_bytes, IfOk, IfSome};
 ghost use Rattle.cm_tree.specs.declared.tree.Inline.TheVariants.{Text as text_inline};
 
+use crate::sizes::Sizes;
 use cm_tree::{Block, BoxedText, Inline, Items, Text};
 use std::alloc::{AllocError, Global};
 use std::sync::Arc;
 
-/// Texts and lists of inlines that were given back.
+/// Texts and lists of inlines that were given back, and the sizes of those of a leaf.
 #[derive(Drop)]
 pub(crate) struct Spare {
     alloc: Global,
     texts: Vec<String>,
     counted: Vec<Arc<Text>>,
     lists: Vec<Vec<Inline>>,
+    pub(crate) sizes: Sizes,
 }
 
 impl Spare {
@@ -28,6 +30,7 @@ impl Spare {
             texts: Vec::new(alloc),
             counted: Vec::new(alloc),
             lists: Vec::new(alloc),
+            sizes: Sizes::new(alloc),
         }
     }
 

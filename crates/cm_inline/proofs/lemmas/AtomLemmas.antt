@@ -1,7 +1,7 @@
 -- What starts at a place of a source, by the byte that is there.
-use Rattle.std.proofs.Common.{◌≡◌, ℕ, suc, ◌+◌, ◌-◌, ◌<◌, ◌≤◌, ◌==◌, ◌&&◌, ◌||◌, not, Bool, true, false, List, [], ◌∷◌, length, take, drop, get_or, reverse, replicate, Option, Some, None, codes, refl, sym, ap, subst, ◌∙◌, arith, length-append, length-drop, drop-drop, get_or-drop}
+use Rattle.std.proofs.Common.{◌≡◌, ℕ, zero, suc, ◌+◌, ◌-◌, ◌<◌, ◌==◌, ◌&&◌, ◌||◌, not, Bool, true, false, List, [], ◌∷◌, length, take, drop, get_or, reverse, replicate, Option, Some, None, codes, refl, sym, ap, subst, ◌∙◌, arith, length-append, length-drop, drop-drop, get_or-drop}
 use Rattle.std.specs.Prelude.{IsUtf8, nat_le, if◌then◌else◌, encode_utf8_all}
-use Rattle.std.specs.List.{slice_range}
+use Rattle.std.specs.List.{slice_range, list_all}
 use Rattle.std.specs.Str.{IsCharBoundary}
 use Rattle.std.proofs.lemmas.Bool.{eqb-true}
 use Rattle.std.proofs.lemmas.List.{drop_more}
@@ -10,7 +10,6 @@ use Rattle.cm_text.specs.Rules.{Rules}
 use Rattle.cm_text.specs.Characters.{is_ascii_punct}
 use Rattle.cm_text.specs.References.{reference, reference_at, chars_of}
 use Rattle.cm_text.specs.declared.references.Chars.{Chars}
-use Rattle.cm_tree.specs.Depth.{depth_of}
 use Rattle.cm_tree.specs.declared.tree.Inline.TheVariants as inline
 use Rattle.cm_scan.specs.Words.{begins_with, run_length, after_run, after_word}
 use Rattle.cm_scan.specs.inlines.Links.{Reading}
@@ -27,20 +26,19 @@ use Rattle.cm_scan.proofs.lemmas.texts.ScannerAnswers.{begins-at}
 use Rattle.cm_scan.proofs.lemmas.inlines.LeftByEachStep.{atom-left}
 use Rattle.cm_scan.proofs.lemmas.spans.BacktickStrings.{not-same}
 use Rattle.cm_inline.proofs.lemmas.BottomLemmas.{kind-small, kind-untilded}
-use Rattle.cm_inline.proofs.lemmas.EmphasisLemmas.{emph-holds, code-holds, html-holds, hard-holds, soft-holds, autolink-holds}
-use Rattle.cm_inline.proofs.lemmas.DepthLemmas.{code-depth, html-depth, hard-depth, soft-depth, link-depth}
-use Rattle.cm_inline.specs.steps.Nodes.{Node, Piece, Characters, Run, Opener, item_of, IsPart}
-use Rattle.cm_inline.specs.declared.tokens.Token.{Token}
-use Rattle.cm_inline.specs.declared.tokens.Token.TheVariants as tokens
-use Rattle.cm_inline.specs.steps.Groups.{node_of, IsNoGroup}
-use Rattle.cm_inline.proofs.lemmas.StandaloneLemmas.{finished}
+use Rattle.cm_inline.proofs.lemmas.EmphasisLemmas.{code-holds, html-holds, hard-holds, soft-holds, autolink-holds}
+use Rattle.cm_inline.specs.declared.atoms.Atom.{Atom as ReadAtom}
+use Rattle.cm_inline.specs.declared.atoms.Atom.TheVariants as read
+use Rattle.cm_inline.specs.steps.Marks.{is_escaped, stays_text}
 use Rattle.cm_inline.specs.declared.delimiter_runs.Marker.{Marker}
 use Rattle.cm_inline.specs.declared.delimiter_runs.Marker.TheVariants.{Star, Underscore, Tilde}
 use Rattle.cm_inline.specs.declared.delimiter_runs.DelimiterRun.{DelimiterRun}
+use Rattle.cm_inline.specs.declared.marks.Kind.TheVariants as kinds
 use Rattle.cm_inline.specs.steps.Runs.{byte_of, run_of}
+use Rattle.cm_inline.specs.Closers.{kinds_with, kinds_by}
 use Rattle.cm_inline.specs.Emphases.{emphases_of}
 use Rattle.cm_inline.specs.steps.Searching.{kind}
-use Rattle.cm_inline.specs.steps.Reads.{Stands, atom_in, is_break_byte, item_for, kinds_by, IsNew, IsAtom}
+use Rattle.cm_inline.specs.steps.Reads.{Stands, atom_in, is_break_byte, item_for, IsNew, IsAtom, Begins}
 
 -- the source from the place on
 front : (source : List ℕ) (at b : ℕ) → Stands source at b → drop at source ≡ b ∷ drop (at + 1) source
@@ -56,24 +54,29 @@ further rules source at end within rest =
     let size : length (drop (at + 1) source) ≡ length left.end.front + length (atom_in rules source at).rest = ap length left.end.is ∙ length-append left.end.front (atom_in rules source at).rest in
     omega (arith, within, size, ap length rest, length-drop (at + 1) source, length-drop end source)
 
+-- a run of a byte that stays text
+pub run-stays : (b : ℕ) → stays_text true b ≡ true → (n : ℕ) → list_all (stays_text true) (replicate n b) ≡ true
+run-stays b h zero = refl
+run-stays b h (suc n) = ap (λ v. v && list_all (stays_text true) (replicate n b)) h ∙ run-stays b h n
+
+pub marker-stays : (m : Marker) → stays_text true (byte_of m) ≡ true
+marker-stays Star = refl
+marker-stays Underscore = refl
+marker-stays Tilde = refl
+
 module _ (rules : Rules) (source : List ℕ) (at : ℕ) where
-  is-atom : (node : Node) (end : ℕ) (a : AtomRead) → at < length source → atom_in rules source at ≡ a → a.rest ≡ drop end source → item_for a.atom a.rest ≡ Some (item_of source node)
-      → IsPart source node → IsCharBoundary source end → IsNew (kinds_by rules) (item_of source node) → IsAtom rules source at node end
-  is-atom node end a within same rest item part boundary fresh =
+  is-atom : (item : items.Item) (end : ℕ) (a : AtomRead) → at < length source → atom_in rules source at ≡ a → a.rest ≡ drop end source → item_for a.atom a.rest ≡ Some item
+      → IsCharBoundary source end → IsNew (kinds_by rules) item → IsAtom rules source at item end
+  is-atom item end a within same rest is boundary fresh =
       let left : (atom_in rules source at).rest ≡ drop end source = ap (λ (t : AtomRead). t.rest) same ∙ rest in
       record {
         rest = left;
-        item = ap (λ (t : AtomRead). item_for t.atom t.rest) same ∙ item;
-        part = part;
+        item_is = ap (λ (t : AtomRead). item_for t.atom t.rest) same ∙ is;
         further = further rules source at end within left;
         within = boundary.0;
         boundary = boundary;
         fresh = fresh;
       }
-
-  -- an answer that is this token and this end
-  pub told : (answer : Token × ℕ) (token : Token) (end : ℕ) → answer ≡ (token, end) → IsAtom rules source at (node_of [] token) end → IsAtom rules source at (node_of [] answer.0) answer.1
-  told answer token end e is = subst (λ (r : Token × ℕ). IsAtom rules source at (node_of [] r.0) r.1) (sym e) is
 
   -- a run
 
@@ -87,12 +90,14 @@ module _ (rules : Rules) (source : List ℕ) (at : ℕ) where
       go false e again = refl
 
   run-is : (m end : ℕ) (a : AtomRead) → Stands source at m → end ≡ at + run_length m (drop at source) → drop end source ≡ after_run m (drop at source) → IsCharBoundary source end
-      → atom_in rules source at ≡ a → a.rest ≡ after_run m (drop at source) → item_for a.atom a.rest ≡ Some (items.Characters (replicate (run_length m (drop at source)) m)) → IsAtom rules source at (Piece at end) end
-  run-is m end a s run left boundary same rest item =
+      → atom_in rules source at ≡ a → a.rest ≡ after_run m (drop at source) → item_for a.atom a.rest ≡ Some (items.Characters (replicate (run_length m (drop at source)) m)) → ((n : ℕ) → list_all (stays_text true) (replicate n m) ≡ true) → Begins rules source at read.Text end
+  run-is m end a s run left boundary same rest item stays =
       let size : end - at ≡ run_length m (drop at source) = omega (arith, run) in
-      let low : at ≤ end = omega (arith, run) in
-      is-atom (Piece at end) end a s.within same (rest ∙ sym left)
-      (item ∙ sym (ap (λ t. Some (items.Characters t)) (ap (λ n. take n (drop at source)) size ∙ run-front m (drop at source)))) (low, s.boundary, boundary) boundary tt
+      let text : slice_range source at end ≡ replicate (run_length m (drop at source)) m = ap (λ n. take n (drop at source)) size ∙ run-front m (drop at source) in
+      record {
+        is = is-atom (items.Characters (slice_range source at end)) end a s.within same (rest ∙ sym left) (item ∙ sym (ap (λ t. Some (items.Characters t)) text)) boundary tt;
+        there = ap (list_all (stays_text true)) text ∙ stays (run_length m (drop at source));
+      }
 
   -- one byte as text
 
@@ -103,10 +108,16 @@ module _ (rules : Rules) (source : List ℕ) (at : ℕ) where
   behind-byte b utf8 s ascii = IsCharBoundary-after_ascii source at utf8 s.within (omega (arith, s.byte, ascii))
 
   byte-is : (b : ℕ) (a : AtomRead) → IsUtf8 source → Stands source at b → b < 128 → atom_in rules source at ≡ a → a.rest ≡ drop (at + 1) source → item_for a.atom a.rest ≡ Some (items.Characters (b ∷ []))
-      → IsAtom rules source at (Piece at (at + 1)) (at + 1)
+      → IsAtom rules source at (items.Characters (slice_range source at (at + 1))) (at + 1)
   byte-is b a utf8 s ascii same rest item =
-      let low : at ≤ at + 1 = omega arith in
-      is-atom (Piece at (at + 1)) (at + 1) a s.within same rest (item ∙ sym (ap (λ t. Some (items.Characters t)) (one-byte b s))) (low, s.boundary, behind-byte b utf8 s ascii) (behind-byte b utf8 s ascii) tt
+      is-atom (items.Characters (slice_range source at (at + 1))) (at + 1) a s.within same rest (item ∙ sym (ap (λ t. Some (items.Characters t)) (one-byte b s))) (behind-byte b utf8 s ascii) tt
+
+  -- as text, or as a character that HTML escapes
+  text-byte : (b : ℕ) → Stands source at b → stays_text true b ≡ true → IsAtom rules source at (items.Characters (slice_range source at (at + 1))) (at + 1) → Begins rules source at read.Text (at + 1)
+  text-byte b s stays is = record { is = is; there = ap (list_all (stays_text true)) (one-byte b s) ∙ ap (λ v. v && true) stays }
+
+  escaped-byte : (b : ℕ) → Stands source at b → is_escaped b ≡ true → IsAtom rules source at (items.Characters (slice_range source at (at + 1))) (at + 1) → Begins rules source at read.Escaped (at + 1)
+  escaped-byte b s escaped is = record { is = is; there = (b, escaped, one-byte b s) }
 
   -- the byte after it
   next-stands : (b c : ℕ) → IsUtf8 source → Stands source at b → b < 128 → begins_with c (drop (at + 1) source) ≡ true → Stands source (at + 1) c
@@ -126,15 +137,15 @@ module _ (rules : Rules) (source : List ℕ) (at : ℕ) where
       ∙ ap (λ t. or_byte 96 (drop (at + 1) source) (span_or (drop at source) t)) (sym h)
 
   pub code-span-is : (inside : List ℕ) (end : ℕ) → Stands source at 96 → span_content (Some (record { text = inside; rest = drop end source })) ≡ code_span (drop at source) → IsCharBoundary source end
-      → IsAtom rules source at (finished (inline.Code (stripped (one_line inside))) 0) end
+      → IsAtom rules source at (items.Finished (inline.Code (stripped (one_line inside)))) end
   code-span-is inside end s h boundary =
       is-atom _ end (record { atom = Whole (inline.Code (stripped (one_line inside))); rest = drop end source }) s.within
-      (tick-in (Some (record { text = stripped (one_line inside); rest = drop end source })) s h) refl refl (code-depth (stripped (one_line inside))) boundary (code-holds (stripped (one_line inside)))
+      (tick-in (Some (record { text = stripped (one_line inside); rest = drop end source })) s h) refl refl boundary (code-holds (stripped (one_line inside)))
 
   pub backticks-are : (end : ℕ) → Stands source at 96 → None ≡ code_span (drop at source) → end ≡ at + run_length 96 (drop at source) → drop end source ≡ after_run 96 (drop at source)
-      → IsCharBoundary source end → IsAtom rules source at (Piece at end) end
+      → IsCharBoundary source end → Begins rules source at read.Text end
   backticks-are end s h run left boundary =
-      run-is 96 end (record { atom = Plain (replicate (run_length 96 (drop at source)) 96); rest = after_run 96 (drop at source) }) s run left boundary (tick-in None s h) refl refl
+      run-is 96 end (record { atom = Plain (replicate (run_length 96 (drop at source)) 96); rest = after_run 96 (drop at source) }) s run left boundary (tick-in None s h) refl refl (run-stays 96 refl)
 
   -- an autolink, raw HTML, or `<` as text
 
@@ -153,8 +164,8 @@ module _ (rules : Rules) (source : List ℕ) (at : ℕ) where
       here rules source at 60 s ∙ ap (λ t. or_byte 60 (drop (at + 1) source) (angle_atom rules t)) (sym (front source at 60 s))
       ∙ ap (λ t. or_byte 60 (drop (at + 1) source) (angled_or (link_or t))) (sym h)
 
-  pub link-is : (link : Autolink) (end : ℕ) → Stands source at 60 → Some link ≡ followed_autolink rules (drop at source) → link.rest ≡ drop end source → IsCharBoundary source end → IsAtom rules source at (finished (link_of link) 1) end
-  link-is link end s h rest boundary = is-atom _ end (record { atom = Whole (link_of link); rest = link.rest }) s.within (angle-in (Some link) s h) rest refl (link-depth link) boundary (autolink-holds link)
+  pub link-is : (link : Autolink) (end : ℕ) → Stands source at 60 → Some link ≡ followed_autolink rules (drop at source) → link.rest ≡ drop end source → IsCharBoundary source end → IsAtom rules source at (items.Finished (link_of link)) end
+  link-is link end s h rest boundary = is-atom _ end (record { atom = Whole (link_of link); rest = link.rest }) s.within (angle-in (Some link) s h) rest refl boundary (autolink-holds link)
 
   html-in : (o : Option (List ℕ)) → Stands source at 60 → None ≡ followed_autolink rules (drop at source) → raw_html rules (drop at source) ≡ o → atom_in rules source at ≡ or_byte 60 (drop (at + 1) source) (angled_or (tagged (drop at source) o))
   html-in o s h e = angle-in None s h ∙ ap (λ t. or_byte 60 (drop (at + 1) source) (angled_or (tagged (drop at source) t))) e
@@ -178,15 +189,15 @@ module _ (rules : Rules) (source : List ℕ) (at : ℕ) where
   none-read text (Some left) h = none-some h
 
   pub html-is : (html : List ℕ) (end : ℕ) → Stands source at 60 → None ≡ followed_autolink rules (drop at source) → Some (record { text = html; rest = drop end source }) ≡ whole_of (drop at source) (raw_html rules (drop at source))
-      → IsCharBoundary source end → IsAtom rules source at (finished (inline.Html html) 0) end
+      → IsCharBoundary source end → IsAtom rules source at (items.Finished (inline.Html html)) end
   html-is html end s h e boundary =
       let parts = whole-read (drop at source) html (drop end source) (raw_html rules (drop at source)) e in
       is-atom _ end (record { atom = Whole (inline.Html (before (drop end source) (drop at source))); rest = drop end source }) s.within (html-in (Some (drop end source)) s h parts.0) refl
-      (sym (ap (λ t. Some (items.Finished (inline.Html t))) parts.1)) (html-depth html) boundary (html-holds html)
+      (sym (ap (λ t. Some (items.Finished (inline.Html t))) parts.1)) boundary (html-holds html)
 
-  pub angle-is-text : IsUtf8 source → Stands source at 60 → None ≡ followed_autolink rules (drop at source) → None ≡ whole_of (drop at source) (raw_html rules (drop at source)) → IsAtom rules source at (Piece at (at + 1)) (at + 1)
+  pub angle-is-text : IsUtf8 source → Stands source at 60 → None ≡ followed_autolink rules (drop at source) → None ≡ whole_of (drop at source) (raw_html rules (drop at source)) → Begins rules source at read.Escaped (at + 1)
   angle-is-text utf8 s h e =
-      byte-is 60 (byte_atom 60 (drop (at + 1) source)) utf8 s (omega arith) (html-in None s h (none-read (drop at source) (raw_html rules (drop at source)) e)) refl refl
+      escaped-byte 60 s refl (byte-is 60 (byte_atom 60 (drop (at + 1) source)) utf8 s (omega arith) (html-in None s h (none-read (drop at source) (raw_html rules (drop at source)) e)) refl refl)
 
   -- a hard line break, an escaped character, or a backslash as text
 
@@ -194,18 +205,21 @@ module _ (rules : Rules) (source : List ℕ) (at : ℕ) where
   unfolding atom_at markup_atom
   slash-in rest s e = here rules source at 92 s ∙ ap (λ t. or_byte 92 t (backslash_atom (92 ∷ t))) e
 
-  pub hard-is : IsUtf8 source → Stands source at 92 → begins_with 10 (drop (at + 1) source) ≡ true → IsAtom rules source at (finished inline.Hard 0) (at + 2)
+  pub hard-is : IsUtf8 source → Stands source at 92 → begins_with 10 (drop (at + 1) source) ≡ true → Begins rules source at (read.Whole kinds.Hard) (at + 2)
   unfolding backslash_atom after_word
   hard-is utf8 s next =
       let feed = next-stands 92 10 utf8 s (omega arith) next in
       let end : at + 1 + 1 ≡ at + 2 = omega arith in
-      is-atom _ (at + 2) (record { atom = Whole inline.Hard; rest = drop (at + 1 + 1) source }) s.within (slash-in (10 ∷ drop (at + 1 + 1) source) s (front source (at + 1) 10 feed)) (ap (λ n. drop n source) end) refl hard-depth
-      (subst (IsCharBoundary source) end (IsCharBoundary-after_ascii source (at + 1) utf8 feed.within (omega (arith, feed.byte)))) hard-holds
+      record {
+        is = is-atom _ (at + 2) (record { atom = Whole inline.Hard; rest = drop (at + 1 + 1) source }) s.within (slash-in (10 ∷ drop (at + 1 + 1) source) s (front source (at + 1) 10 feed)) (ap (λ n. drop n source) end) refl
+            (subst (IsCharBoundary source) end (IsCharBoundary-after_ascii source (at + 1) utf8 feed.within (omega (arith, feed.byte)))) hard-holds;
+        there = tt;
+      }
 
   abbrev escape_or : Option (List ℕ × ℕ) → List ℕ → Option AtomRead
   escape_or o text = elim o as (λ _. Option AtomRead) [ Some escaped ↦ read (Plain escaped.0) (drop escaped.1 text) | None ↦ None ]
 
-  pub escape-is : (c : ℕ) → IsUtf8 source → Stands source at 92 → at + 1 < length source → get_or source (at + 1) 0 ≡ c → c < 128 → is_ascii_punct c ≡ true → IsAtom rules source at (Piece (at + 1) (at + 2)) (at + 2)
+  pub escape-is : (c : ℕ) → IsUtf8 source → Stands source at 92 → at + 1 < length source → get_or source (at + 1) 0 ≡ c → c < 128 → is_ascii_punct c ≡ true → Begins rules source at read.Escape (at + 2)
   unfolding backslash_atom after_word
   escape-is c utf8 s within byte ascii punct =
       let boundary = behind-byte 92 utf8 s (omega arith) in
@@ -213,10 +227,13 @@ module _ (rules : Rules) (source : List ℕ) (at : ℕ) where
       let end : at + 1 + 1 ≡ at + 2 = omega arith in
       let behind : IsCharBoundary source (at + 2) = subst (IsCharBoundary source) end (IsCharBoundary-after_ascii source (at + 1) utf8 within (omega (arith, byte, ascii))) in
       let one : at + 2 - (at + 1) ≡ 1 = omega arith in
-      let low : at + 1 ≤ at + 2 = omega arith in
-      is-atom _ (at + 2) (record { atom = Plain (c ∷ []); rest = drop (at + 1 + 1) source }) s.within
-      (slash-in (c ∷ drop (at + 1 + 1) source) s (front source (at + 1) c next) ∙ escaped (c == 10) (no-feed c punct)) (ap (λ n. drop n source) end)
-      (sym (ap (λ t. Some (items.Characters t)) (ap (λ n. take n (drop (at + 1) source)) one ∙ ap (take 1) (front source (at + 1) c next)))) (low, boundary, behind) behind tt
+      let text : slice_range source (at + 1) (at + 2) ≡ c ∷ [] = ap (λ n. take n (drop (at + 1) source)) one ∙ ap (take 1) (front source (at + 1) c next) in
+      record {
+        is = is-atom (items.Characters (slice_range source (at + 1) (at + 2))) (at + 2) (record { atom = Plain (c ∷ []); rest = drop (at + 1 + 1) source }) s.within
+            (slash-in (c ∷ drop (at + 1 + 1) source) s (front source (at + 1) c next) ∙ escaped (c == 10) (no-feed c punct)) (ap (λ n. drop n source) end)
+            (sym (ap (λ t. Some (items.Characters t)) text)) behind tt;
+        there = (c, refl, boundary, text, sym byte, no-feed c punct);
+      }
     where
       no-feed : (c : ℕ) → is_ascii_punct c ≡ true → (c == 10) ≡ false
       no-feed c punct = grind (arith, punct)
@@ -241,11 +258,11 @@ module _ (rules : Rules) (source : List ℕ) (at : ℕ) where
       ∙ ap (λ p. or_byte 92 (c ∷ cs) (escape_or (if p then Some (c ∷ [], 2) else None) (92 ∷ c ∷ cs))) (punct (omega arith))
 
   pub backslash-is-text : IsUtf8 source → Stands source at 92 → begins_with 10 (drop (at + 1) source) ≡ false → (at + 1 < length source → is_ascii_punct (get_or source (at + 1) 0) ≡ false)
-      → IsAtom rules source at (Piece at (at + 1)) (at + 1)
+      → Begins rules source at read.Text (at + 1)
   backslash-is-text utf8 s feed punct =
-      byte-is 92 (byte_atom 92 (drop (at + 1) source)) utf8 s (omega arith)
+      text-byte 92 s refl (byte-is 92 (byte_atom 92 (drop (at + 1) source)) utf8 s (omega arith)
       (slash-in (drop (at + 1) source) s refl ∙ escapes-none (drop (at + 1) source) feed
-      (λ some. ap is_ascii_punct (get_or-drop (at + 1) source 0 0 ∙ ap (λ n. get_or source n 0) nothing) ∙ punct (omega (arith, some, length-drop (at + 1) source)))) refl refl
+      (λ some. ap is_ascii_punct (get_or-drop (at + 1) source 0 0 ∙ ap (λ n. get_or source n 0) nothing) ∙ punct (omega (arith, some, length-drop (at + 1) source)))) refl refl)
     where
       nothing : at + 1 + 0 ≡ at + 1
       nothing = omega arith
@@ -261,17 +278,20 @@ module _ (rules : Rules) (source : List ℕ) (at : ℕ) where
       here rules source at 38 s ∙ ap (λ t. or_byte 38 (drop (at + 1) source) (reference_atom t)) (sym (front source at 38 s))
       ∙ ap (λ t. or_byte 38 (drop (at + 1) source) (reference_or (drop at source) t)) e
 
-  pub reference-is : (chars : Chars) (end : ℕ) → Stands source at 38 → Some (chars_of chars, end) ≡ reference_at source at → IsCharBoundary source end → IsAtom rules source at (Characters chars) end
+  pub reference-is : (chars : Chars) (end : ℕ) → Stands source at 38 → Some (chars_of chars, end) ≡ reference_at source at → IsCharBoundary source end → Begins rules source at (read.Reference chars) end
   reference-is chars end s h boundary = go (reference (drop at source)) refl h
     where
       go : (o : Option (List ℕ × ℕ)) → reference (drop at source) ≡ o → Some (chars_of chars, end) ≡ elim o as (λ _. Option (List ℕ × ℕ)) [ None ↦ None | Some found ↦ Some (found.0, at + found.1) ]
-          → IsAtom rules source at (Characters chars) end
+          → Begins rules source at (read.Reference chars) end
       go None e g = none-some (sym g)
       go (Some found) e g =
           let same : chars_of chars ≡ found.0 = ap chars_in g in
           let place : end ≡ at + found.1 = ap end_in g in
-          is-atom _ end (record { atom = Plain (encode_utf8_all found.0); rest = drop found.1 (drop at source) }) s.within (ampersand-in (Some found) s e)
-          (drop-drop found.1 at source ∙ ap (λ n. drop n source) (sym place)) (sym (ap (λ t. Some (items.Characters (encode_utf8_all t))) same)) tt boundary tt
+          record {
+            is = is-atom _ end (record { atom = Plain (encode_utf8_all found.0); rest = drop found.1 (drop at source) }) s.within (ampersand-in (Some found) s e)
+                (drop-drop found.1 at source ∙ ap (λ n. drop n source) (sym place)) (sym (ap (λ t. Some (items.Characters (encode_utf8_all t))) same)) boundary tt;
+            there = tt;
+          }
         where
           chars_in : Option (List ℕ × ℕ) → List ℕ
           chars_in None = []
@@ -281,8 +301,8 @@ module _ (rules : Rules) (source : List ℕ) (at : ℕ) where
           end_in None = 0
           end_in (Some r) = r.1
 
-  pub ampersand-is-text : IsUtf8 source → Stands source at 38 → None ≡ reference_at source at → IsAtom rules source at (Piece at (at + 1)) (at + 1)
-  ampersand-is-text utf8 s h = byte-is 38 (byte_atom 38 (drop (at + 1) source)) utf8 s (omega arith) (ampersand-in None s (go (reference (drop at source)) h)) refl refl
+  pub ampersand-is-text : IsUtf8 source → Stands source at 38 → None ≡ reference_at source at → Begins rules source at read.Escaped (at + 1)
+  ampersand-is-text utf8 s h = escaped-byte 38 s refl (byte-is 38 (byte_atom 38 (drop (at + 1) source)) utf8 s (omega arith) (ampersand-in None s (go (reference (drop at source)) h)) refl refl)
     where
       go : (o : Option (List ℕ × ℕ)) → None ≡ elim o as (λ _. Option (List ℕ × ℕ)) [ None ↦ None | Some found ↦ Some (found.0, at + found.1) ] → o ≡ None
       go None g = refl
@@ -326,39 +346,38 @@ module _ (rules : Rules) (source : List ℕ) (at : ℕ) where
   no-feed-next (b ∷ bs) h = ap (λ f. elim f as (λ _. Option (List ℕ)) [ true ↦ Some bs | false ↦ None ]) h
 
   pub break-is : (b feed : ℕ) → IsUtf8 source → Stands source at b → is_break_byte b ≡ true → feed ≡ at + run_length 32 (drop at source) → drop feed source ≡ after_run 32 (drop at source)
-      → begins_with 10 (drop feed source) ≡ true → IsAtom rules source at (finished (if nat_le 2 (feed - at) then inline.Hard else inline.Soft) 0) (feed + 1)
+      → begins_with 10 (drop feed source) ≡ true → IsAtom rules source at (items.Finished (if nat_le 2 (feed - at) then inline.Hard else inline.Soft)) (feed + 1)
   break-is b feed utf8 s is run left next =
       let size : feed - at ≡ run_length 32 (drop at source) = omega (arith, run) in
       let found = begins-at 10 source feed next in
       is-atom _ (feed + 1) (record { atom = Whole (if nat_le 2 (run_length 32 (drop at source)) then inline.Hard else inline.Soft); rest = drop 1 (drop feed source) }) s.within
       (break-in b (Some (drop 1 (drop feed source))) s is (ap (after_word (codes "\n")) (sym left) ∙ feed-next (drop feed source) next))
-      (drop-drop 1 feed source) (sym (ap (λ n. Some (items.Finished (if nat_le 2 n then inline.Hard else inline.Soft))) size)) (shallow (nat_le 2 (feed - at)))
+      (drop-drop 1 feed source) (sym (ap (λ n. Some (items.Finished (if nat_le 2 n then inline.Hard else inline.Soft))) size))
       (IsCharBoundary-after_ascii source feed utf8 found.0 (omega (arith, found.2))) (none (nat_le 2 (feed - at)))
     where
-      shallow : (hard : Bool) → depth_of (if hard then inline.Hard else inline.Soft) ≡ 0
-      shallow true = hard-depth
-      shallow false = soft-depth
-
       none : (hard : Bool) → emphases_of (if hard then inline.Hard else inline.Soft) ≡ 0
       none true = hard-holds
       none false = soft-holds
 
   -- a line feed with no space before it
-  pub feed-is : IsUtf8 source → Stands source at 10 → IsAtom rules source at (finished inline.Soft 0) (at + 1)
+  pub feed-is : IsUtf8 source → Stands source at 10 → Begins rules source at read.LineFeed (at + 1)
   unfolding run_length after_run
   feed-is utf8 s =
       let first : drop at source ≡ 10 ∷ drop (at + 1) source = front source at 10 s in
       let none : run_length 32 (drop at source) ≡ 0 = ap (run_length 32) first in
       let stays : after_run 32 (drop at source) ≡ drop at source = ap (after_run 32) first ∙ sym first in
       let size : at - at ≡ 0 = omega arith in
-      subst (λ n. IsAtom rules source at (finished (if nat_le 2 n then inline.Hard else inline.Soft) 0) (at + 1)) size
-      (break-is 10 at utf8 s refl (omega (arith, none)) (sym stays) (ap (begins_with 10) first))
+      record {
+        is = subst (λ n. IsAtom rules source at (items.Finished (if nat_le 2 n then inline.Hard else inline.Soft)) (at + 1)) size
+            (break-is 10 at utf8 s refl (omega (arith, none)) (sym stays) (ap (begins_with 10) first));
+        there = (refl, one-byte 10 s);
+      }
 
   pub space-is-text : (b feed : ℕ) → IsUtf8 source → Stands source at b → is_break_byte b ≡ true → drop feed source ≡ after_run 32 (drop at source)
-      → begins_with 10 (drop feed source) ≡ false → IsAtom rules source at (Piece at (at + 1)) (at + 1)
-  space-is-text b feed utf8 s is left next =
-      byte-is b (byte_atom b (drop (at + 1) source)) utf8 s (small b is)
-      (break-in b None s is (ap (after_word (codes "\n")) (sym left) ∙ no-feed-next (drop feed source) next)) refl refl
+      → begins_with 10 (drop feed source) ≡ false → (b ≡ 32) → Begins rules source at read.Text (at + 1)
+  space-is-text b feed utf8 s is left next space =
+      text-byte b s (ap (stays_text true) space) (byte-is b (byte_atom b (drop (at + 1) source)) utf8 s (small b is)
+      (break-in b None s is (ap (after_word (codes "\n")) (sym left) ∙ no-feed-next (drop feed source) next)) refl refl)
     where
       small : (b : ℕ) → is_break_byte b ≡ true → b < 128
       small b h = grind (arith, h)
@@ -369,16 +388,18 @@ module _ (rules : Rules) (source : List ℕ) (at : ℕ) where
   unfolding atom_at markup_atom
   bang-in rest s e = here rules source at 33 s ∙ ap (λ t. or_byte 33 t (bang_atom (33 ∷ t))) e
 
-  pub image-is : IsUtf8 source → Stands source at 33 → begins_with 91 (drop (at + 1) source) ≡ true → IsAtom rules source at (Opener true (at + 2)) (at + 2)
+  pub image-is : IsUtf8 source → Stands source at 33 → begins_with 91 (drop (at + 1) source) ≡ true → Begins rules source at (read.Opener true) (at + 2)
   unfolding bang_atom after_word
   image-is utf8 s next =
       let bracket = next-stands 33 91 utf8 s (omega arith) next in
       let end : at + 1 + 1 ≡ at + 2 = omega arith in
       let behind : IsCharBoundary source (at + 2) = subst (IsCharBoundary source) end (IsCharBoundary-after_ascii source (at + 1) utf8 bracket.within (omega (arith, bracket.byte))) in
       let rest : drop (at + 1 + 1) source ≡ drop (at + 2) source = ap (λ n. drop n source) end in
-      is-atom _ (at + 2) (record { atom = OpenBracket true; rest = drop (at + 1 + 1) source }) s.within (bang-in (91 ∷ drop (at + 1 + 1) source) s (front source (at + 1) 91 bracket)) rest
-      (ap (λ t. Some (items.Opener true t)) rest)
-      (record { at = at; place = refl; front = front source at 33 s ∙ ap (λ t. 33 ∷ t) (front source (at + 1) 91 bracket ∙ ap (λ t. 91 ∷ t) rest); start = s.boundary; end = behind }) behind tt
+      record {
+        is = is-atom _ (at + 2) (record { atom = OpenBracket true; rest = drop (at + 1 + 1) source }) s.within (bang-in (91 ∷ drop (at + 1 + 1) source) s (front source (at + 1) 91 bracket)) rest
+            (ap (λ t. Some (items.Opener true t)) rest) behind tt;
+        there = (refl, front source at 33 s ∙ ap (λ t. 33 ∷ t) (front source (at + 1) 91 bracket ∙ ap (λ t. 91 ∷ t) rest));
+      }
 
   alone-bang : (text : List ℕ) → begins_with 91 text ≡ false → or_byte 33 text (bang_atom (33 ∷ text)) ≡ byte_atom 33 text
   unfolding bang_atom after_word
@@ -386,22 +407,21 @@ module _ (rules : Rules) (source : List ℕ) (at : ℕ) where
   alone-bang (b ∷ bs) h =
       ap (λ f. or_byte 33 (b ∷ bs) (elim (elim f as (λ _. Option (List ℕ)) [ true ↦ Some bs | false ↦ None ]) as (λ _. Option AtomRead) [ Some rest ↦ read (OpenBracket true) rest | None ↦ None ])) h
 
-  pub bang-is-text : IsUtf8 source → Stands source at 33 → begins_with 91 (drop (at + 1) source) ≡ false → IsAtom rules source at (Piece at (at + 1)) (at + 1)
-  bang-is-text utf8 s next = byte-is 33 (byte_atom 33 (drop (at + 1) source)) utf8 s (omega arith) (bang-in (drop (at + 1) source) s refl ∙ alone-bang (drop (at + 1) source) next) refl refl
+  pub bang-is-text : IsUtf8 source → Stands source at 33 → begins_with 91 (drop (at + 1) source) ≡ false → Begins rules source at read.Text (at + 1)
+  bang-is-text utf8 s next = text-byte 33 s refl (byte-is 33 (byte_atom 33 (drop (at + 1) source)) utf8 s (omega arith) (bang-in (drop (at + 1) source) s refl ∙ alone-bang (drop (at + 1) source) next) refl refl)
 
   -- `[`
 
-  pub opener-is : IsUtf8 source → Stands source at 91 → IsAtom rules source at (Opener false (at + 1)) (at + 1)
+  pub opener-is : IsUtf8 source → Stands source at 91 → Begins rules source at (read.Opener false) (at + 1)
   unfolding atom_at markup_atom
   opener-is utf8 s =
       let behind = behind-byte 91 utf8 s (omega arith) in
-      is-atom _ (at + 1) (record { atom = OpenBracket false; rest = drop (at + 1) source }) s.within (here rules source at 91 s) refl refl
-      (record { at = at; place = refl; front = front source at 91 s; start = s.boundary; end = behind }) behind tt
+      record { is = is-atom _ (at + 1) (record { atom = OpenBracket false; rest = drop (at + 1) source }) s.within (here rules source at 91 s) refl refl behind tt; there = (refl, front source at 91 s) }
 
   -- a run of a marker
 
   -- tildes are of a run only with strikethrough
-  known : (m : Marker) (strike two : Bool) (run : delimiters.Run) → run.character ≡ byte_of m → (not (byte_of m == 126) || strike && two) ≡ true → kind run < (if strike then 13 else 12)
+  known : (m : Marker) (strike two : Bool) (run : delimiters.Run) → run.character ≡ byte_of m → (not (byte_of m == 126) || strike && two) ≡ true → kind run < kinds_with strike
   known m true two run is e = kind-small run
   known Star false two run is e = kind-untilded run (ap (λ c. c == 126) is)
   known Underscore false two run is e = kind-untilded run (ap (λ c. c == 126) is)
@@ -431,18 +451,18 @@ module _ (rules : Rules) (source : List ℕ) (at : ℕ) where
   marker-in m s = here rules source at (byte_of m) s ∙ marker-read m (drop (at + 1) source)
 
   pub marker-text-is : (m : Marker) (end : ℕ) → Stands source at (byte_of m) → (not (byte_of m == 126) || rules.strike && end - at == 2) ≡ false → end ≡ at + run_length (byte_of m) (drop at source)
-      → drop end source ≡ after_run (byte_of m) (drop at source) → IsCharBoundary source end → IsAtom rules source at (Piece at end) end
+      → drop end source ≡ after_run (byte_of m) (drop at source) → IsCharBoundary source end → Begins rules source at read.Text end
   marker-text-is m end s struck run left boundary =
       let b = byte_of m in
       let f = front source at b s in
       let count : end - at ≡ run_length b (b ∷ drop (at + 1) source) = omega (arith, run, ap (run_length b) f) in
       run-is b end (marker_read b (drop (at + 1) source) false) s run left boundary
       (marker-in m s ∙ ap (marker_read b (drop (at + 1) source)) (ap (λ n. not (b == 126) || rules.strike && n == 2) (sym count) ∙ struck))
-      (ap (after_run b) (sym f)) (ap (λ t. Some (items.Characters (replicate (run_length b t) b))) (sym f))
+      (ap (after_run b) (sym f)) (ap (λ t. Some (items.Characters (replicate (run_length b t) b))) (sym f)) (run-stays b (marker-stays m))
 
   pub marker-run-is : (m : Marker) (run : DelimiterRun) (end : ℕ) → Stands source at (byte_of m) → (not (byte_of m == 126) || rules.strike && end - at == 2) ≡ true → end ≡ at + run_length (byte_of m) (drop at source)
       → drop end source ≡ after_run (byte_of m) (drop at source) → IsCharBoundary source end → run_of run ≡ run_between rules (byte_of m) (end - at) (reverse (take at source)) (drop end source)
-      → IsAtom rules source at (Run run) end
+      → Begins rules source at (read.Run run) end
   unfolding run_between
   marker-run-is m run end s struck size left boundary is =
       let b = byte_of m in
@@ -452,13 +472,19 @@ module _ (rules : Rules) (source : List ℕ) (at : ℕ) where
       let rest = ap (after_run b) (sym f) ∙ sym left in
       let low : at < end = further rules source at end s.within (ap (λ (t : AtomRead). t.rest) same ∙ rest) in
       let whole : run.left ≡ end - at = ap (λ (r : delimiters.Run). r.left) is in
-      is-atom (Run run) end (run_read b (drop (at + 1) source)) s.within same rest
-      (ap (λ r. Some (items.Delimiters r)) (ap (λ n. run_between rules b n (reverse (take at source)) (after_run b (b ∷ drop (at + 1) source))) (sym count) ∙ ap (run_between rules b (end - at) (reverse (take at source))) rest ∙ sym is))
-      tt boundary (known m rules.strike (end - at == 2) (run_of run) (ap (λ (r : delimiters.Run). r.character) is) struck, whole ∙ sym (ap (λ (r : delimiters.Run). r.whole) is), (let long : run.whole ≡ end - at = ap (λ (r : delimiters.Run). r.whole) is in omega (arith, long, low)))
+      let size_is : end - at ≡ run_length b (drop at source) = omega (arith, size) in
+      let long_is : run.whole ≡ run_length b (drop at source) = ap (λ (r : delimiters.Run). r.whole) is ∙ size_is in
+      let character : byte_of run.marker ≡ b = ap (λ (r : delimiters.Run). r.character) is in
+      record {
+        is = is-atom (items.Delimiters (run_of run)) end (run_read b (drop (at + 1) source)) s.within same rest
+            (ap (λ r. Some (items.Delimiters r)) (ap (λ n. run_between rules b n (reverse (take at source)) (after_run b (b ∷ drop (at + 1) source))) (sym count) ∙ ap (run_between rules b (end - at) (reverse (take at source))) rest ∙ sym is))
+            boundary (known m rules.strike (end - at == 2) (run_of run) (ap (λ (r : delimiters.Run). r.character) is) struck, whole ∙ sym (ap (λ (r : delimiters.Run). r.whole) is), (let long : run.whole ≡ end - at = ap (λ (r : delimiters.Run). r.whole) is in omega (arith, long, low)));
+        there = ap (λ n. take n (drop at source)) size_is ∙ run-front b (drop at source) ∙ ap (λ n. replicate n b) (sym long_is) ∙ ap (replicate run.whole) (sym character);
+      }
 
   -- a byte by itself
 
-  pub lone-is : (b : ℕ) → IsUtf8 source → Stands source at b → b < 128 → is_markup b ≡ false → IsAtom rules source at (Piece at (at + 1)) (at + 1)
+  pub lone-is : (b : ℕ) → IsUtf8 source → Stands source at b → b < 128 → is_markup b ≡ false → IsAtom rules source at (items.Characters (slice_range source at (at + 1))) (at + 1)
   unfolding atom_at
   lone-is b utf8 s ascii lone =
       byte-is b (byte_atom b (drop (at + 1) source)) utf8 s ascii
@@ -470,12 +496,17 @@ pub lone-byte : (b : ℕ) → (b ≡ 10 → ⊥) → (b ≡ 32 → ⊥) → (b �
 lone-byte b feed space bang ampersand star angle left slash right underscore tick tilde =
     rw (not-same b 10 feed, not-same b 32 space, not-same b 33 bang, not-same b 38 ampersand, not-same b 42 star, not-same b 60 angle, not-same b 91 left, not-same b 92 slash, not-same b 93 right, not-same b 95 underscore, not-same b 96 tick, not-same b 126 tilde) refl
 
--- a token that is an atom was read, since a group holds emphasis as long as nothing is made of the groups
-pub token-read : (rules : Rules) (source : List ℕ) (at : ℕ) (token : Token) (end : ℕ) → IsAtom rules source at (node_of [] token) end → IsNoGroup token
-token-read rules source at (tokens.Piece from to) end is = tt
-token-read rules source at (tokens.Characters chars) end is = tt
-token-read rules source at (tokens.Whole standalone) end is = tt
-token-read rules source at (tokens.Made number depth false) end is = absurd (omega (arith, is.fresh, emph-holds []))
-token-read rules source at (tokens.Made number depth true) end is = absurd (omega (arith, is.fresh, emph-holds []))
-token-read rules source at (tokens.Run run) end is = tt
-token-read rules source at (tokens.Opener image behind) end is = tt
+-- a byte alone that is text, or that HTML escapes
+module _ (rules : Rules) (source : List ℕ) (at : ℕ) where
+  abbrev Alone : (atom : ReadAtom) → Type 0
+  Alone atom = Begins rules source at atom (at + 1)
+
+  pub escaped-is : (b : ℕ) → IsUtf8 source → Stands source at b → b < 128 → is_markup b ≡ false → is_escaped b ≡ true → Alone read.Escaped
+  escaped-is b utf8 s ascii lone escaped = escaped-byte rules source at b s escaped (lone-is rules source at b utf8 s ascii lone)
+
+  pub text-is : (b : ℕ) → IsUtf8 source → Stands source at b → b < 128 → is_markup b ≡ false → stays_text true b ≡ true → Alone read.Text
+  text-is b utf8 s ascii lone stays = text-byte rules source at b s stays (lone-is rules source at b utf8 s ascii lone)
+
+-- a byte that HTML doesn't escape, and that is no line feed
+pub stays-lone : (b : ℕ) → is_markup b ≡ false → is_escaped b ≡ false → stays_text true b ≡ true
+stays-lone b lone plain = ap (λ v. not v && not (true && b == 10)) plain ∙ ap not (not-same b 10 (λ e. false-true (sym lone ∙ ap is_markup e)))

@@ -4,6 +4,7 @@ use Rattle.std.specs.Prelude.{⊤}
 use Rattle.cm_scan.specs.inlines.Delimiters.{Run, is_multiple_of_3, delimiters_match}
 use Rattle.cm_scan.specs.inlines.Pairing.{Item, Characters, Finished, Linked, Delimiters, Opener, nearest_opener}
 use Rattle.cm_scan.proofs.lemmas.inlines.PairingLemmas.{reverse-first, nearest-found, nearest-passes, opened_at}
+use Rattle.cm_inline.specs.Closers.{kinds_of_one, kinds_without_tildes, all_kinds}
 use Rattle.cm_inline.specs.steps.Searching.{kind, IsMarked}
 
 -- closers of stars or underscores with these in common
@@ -36,7 +37,7 @@ tildes-match c o e =
 
 -- the number of a kind, by its parts
 abbrev number : (tilde underscore opens : Bool) → ℕ → ℕ
-number tilde underscore opens rest = cond tilde 12 (cond underscore 6 0 + cond opens 3 0 + rest)
+number tilde underscore opens rest = cond tilde kinds_without_tildes (cond underscore kinds_of_one 0 + cond opens 3 0 + rest)
 
 apart : (u o v p : Bool) (w x : ℕ) → w < 3 → x < 3 → number false u o w ≡ number false v p x → (u ≡ v) × (o ≡ p) × (w ≡ x)
 apart true true true true w x g h e = (refl, refl, omega (arith, g, h, e))
@@ -56,7 +57,7 @@ apart false false true false w x g h e = absurd (omega (arith, g, h, e))
 apart false false false true w x g h e = absurd (omega (arith, g, h, e))
 apart false false false false w x g h e = (refl, refl, omega (arith, g, h, e))
 
-number-small : (u o : Bool) (w : ℕ) → w < 3 → number false u o w < 12
+number-small : (u o : Bool) (w : ℕ) → w < 3 → number false u o w < kinds_without_tildes
 number-small true true w h = omega (arith, h)
 number-small true false w h = omega (arith, h)
 number-small false true w h = omega (arith, h)
@@ -66,16 +67,16 @@ number-of : (c : Run) (n : ℕ) → c.character ≡ n → kind c ≡ number (n =
 unfolding kind
 number-of c n e = ap (λ n. number (n == 126) (n == 95) c.opens (c.whole % 3)) e
 
-pub kind-small : (c : Run) → kind c < 13
+pub kind-small : (c : Run) → kind c < all_kinds
 unfolding kind
 kind-small c = go (c.character == 126) (number-small (c.character == 95) c.opens (c.whole % 3) (omega arith))
   where
-    go : (b : Bool) → number false (c.character == 95) c.opens (c.whole % 3) < 12 → number b (c.character == 95) c.opens (c.whole % 3) < 13
+    go : (b : Bool) → number false (c.character == 95) c.opens (c.whole % 3) < kinds_without_tildes → number b (c.character == 95) c.opens (c.whole % 3) < all_kinds
     go true h = omega arith
     go false h = omega (arith, h)
 
 -- but for tildes
-pub kind-untilded : (c : Run) → (c.character == 126) ≡ false → kind c < 12
+pub kind-untilded : (c : Run) → (c.character == 126) ≡ false → kind c < kinds_without_tildes
 unfolding kind
 kind-untilded c e = let small = number-small (c.character == 95) c.opens (c.whole % 3) (omega arith) in omega (arith, small, ap (λ b. number b (c.character == 95) c.opens (c.whole % 3)) e)
 
@@ -84,7 +85,7 @@ pub kind-match : (c d o : Run) → IsMarked c → IsMarked d → c.closes ≡ tr
 kind-match c d o (inr (inr p)) (inr (inr q)) h k e = tildes-match c o p ∙ sym (tildes-match d o q)
 kind-match c d o (inr (inr p)) (inl q) h k e = absurd (mixed c d (sym (number-of c 126 p)) 42 refl q e)
   where
-    mixed : (c d : Run) → 12 ≡ kind c → (n : ℕ) → (n == 126) ≡ false → d.character ≡ n → kind c ≡ kind d → ⊥
+    mixed : (c d : Run) → kinds_without_tildes ≡ kind c → (n : ℕ) → (n == 126) ≡ false → d.character ≡ n → kind c ≡ kind d → ⊥
     mixed c d t n f q e = omega (arith, t, e, number-of d n q, ap (λ b. number b (n == 95) d.opens (d.whole % 3)) f, number-small (n == 95) d.opens (d.whole % 3) (omega arith))
 kind-match c d o (inr (inr p)) (inr (inl q)) h k e = absurd (omega (arith, number-of c 126 p, e, number-of d 95 q, number-small true d.opens (d.whole % 3) (omega arith)))
 kind-match c d o (inl p) (inr (inr q)) h k e = absurd (omega (arith, number-of d 126 q, e, number-of c 42 p, number-small false c.opens (c.whole % 3) (omega arith)))

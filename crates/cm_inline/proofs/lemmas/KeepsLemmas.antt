@@ -7,7 +7,7 @@ use Rattle.cm_scan.specs.inlines.Pairing.{Item, Characters, Finished, Linked, Op
 use Rattle.cm_inline.specs.Emphases.{emphases}
 use Rattle.cm_inline.specs.steps.Pairs.{IsOf, AreLooks, Keeps, allowed, allowance}
 use Rattle.cm_inline.proofs.lemmas.EmphasisLemmas.{both-hold, made-holds}
-use Rattle.cm_inline.proofs.lemmas.PairLemmas.{of-append, of-split, allowance-both, allowance-one}
+use Rattle.cm_inline.proofs.lemmas.AllowanceLemmas.{of-append, of-split, allowance-both, allowance-one}
 
 made-free : (kinds : ℕ) (image : Bool) (dest title : List ℕ) (inside : List Item) → IsOf kinds (made image dest title inside) × (allowed kinds (made image dest title inside) ≡ 0)
 made-free kinds false dest title inside = (tt, refl)

@@ -1,5 +1,5 @@
 -- What follows the right bracket of a link or an image, by what comes next in the source.
-use Rattle.std.proofs.Common.{◌≡◌, ◌≢◌, ℕ, suc, ◌+◌, ◌<◌, ◌≤◌, ◌==◌, Bool, true, false, List, [], ◌∷◌, ◌++◌, length, drop, get_or, Option, Some, None, Result, Ok, Err, IfOk, IfSome, codes, refl, sym, ap, subst, ◌∙◌, arith, length-append, length-drop}
+use Rattle.std.proofs.Common.{◌≡◌, ◌≢◌, ℕ, suc, ◌+◌, ◌<◌, ◌≤◌, ◌==◌, Bool, true, false, List, [], ◌∷◌, ◌++◌, length, drop, get_or, Option, Some, None, Result, Ok, Err, IfOk, IfSome, codes, if◌then◌else◌, refl, sym, ap, subst, ◌∙◌, arith, length-append, length-drop}
 use Rattle.std.specs.List.{slice_range}
 use Rattle.std.specs.Str.{IsCharBoundary}
 use Rattle.std.proofs.lemmas.List.{drop_more}
@@ -7,6 +7,7 @@ use Rattle.cm_text.specs.Rules.{Rules}
 use Rattle.cm_text.specs.Addresses.{is_followed}
 use Rattle.cm_text.specs.Unescaping.{unescape}
 use Rattle.cm_tree.specs.Definitions.{Target}
+use Rattle.cm_scan.specs.Scanned.{IsAt}
 use Rattle.cm_scan.specs.Words.{begins_with, after_word}
 use Rattle.cm_scan.specs.spans.Tags.{is_blank_next, after_gap}
 use Rattle.cm_scan.specs.inlines.Links.{Reading, label, destination, title}
@@ -14,9 +15,12 @@ use Rattle.cm_scan.specs.inlines.Brackets as brackets
 use Rattle.cm_scan.specs.inlines.Brackets.{Defined, closed, after_destination, inline_end, target_of, target_between, collapsed_or_shortcut, reference_end, end_if_followed, end_at}
 use Rattle.cm_scan.proofs.lemmas.texts.ScannerAnswers.{begins-at}
 use Rattle.cm_scan.proofs.lemmas.inlines.LeftByEachStep.{end_at-end}
+use Rattle.cm_inline.specs.declared.leaf.Leaf.{Leaf}
 use Rattle.cm_inline.specs.declared.links.LinkEnd.{LinkEnd}
 use Rattle.cm_inline.specs.steps.Reads.{Stands}
-use Rattle.cm_inline.specs.steps.Links.{found_target, ends_of, leads_to, behind_brackets}
+use Rattle.cm_inline.specs.steps.Marks.{target_in}
+use Rattle.cm_inline.specs.steps.Leaves.{defined_by}
+use Rattle.cm_inline.specs.steps.Links.{ends_of, leads_to, after_brackets, IsPlaced}
 use Rattle.cm_inline.proofs.lemmas.SliceLemmas.{slice-front}
 use Rattle.cm_inline.proofs.lemmas.LabelLemmas.{label_between, no_label_between}
 
@@ -92,6 +96,14 @@ pub by-destination : (text gap : List ℕ) (at : ℕ) (o : Option Reading) → b
 unfolding inline_end
 by-destination text gap at o next same h = ap opened (word-one 40 text at next) ∙ ap (in_parentheses (drop (at + 1) text)) (ap destination (sym same) ∙ sym h)
 
+-- a destination starts behind `<` if that comes next
+pub from-by : (found next : Bool) (gap : ℕ) → found ≡ next → (if found then gap + 1 else gap) ≡ (if next then gap + 1 else gap)
+from-by found next gap h = ap (λ (b : Bool). if b then gap + 1 else gap) h
+
+-- a part that is at a place of a source
+pub part-from : (source part : List ℕ) (place from : ℕ) → IsAt source place part → place ≡ from → slice_range source from (from + length part) ≡ part
+part-from source part place from at same = subst (λ n. slice_range source n (n + length part) ≡ part) same at.is
+
 -- References
 
 abbrev either : Defined → List ℕ → List ℕ → Option Reading → Option brackets.LinkEnd
@@ -105,7 +117,7 @@ abbrev without : List ℕ → Option (List ℕ) → List ℕ
 without text o = elim o [ Some rest ↦ rest | None ↦ text ]
 
 -- by the two brackets that follow, or by what follows
-not-full : (target : Option Target) (text : List ℕ) → collapsed_or_shortcut target text ≡ leads_to target (behind_brackets text)
+not-full : (target : Option Target) (text : List ℕ) → collapsed_or_shortcut target text ≡ leads_to target (after_brackets text)
 not-full None text = refl
 not-full (Some target) text = go (after_word (codes "[]") text)
   where
@@ -115,21 +127,21 @@ not-full (Some target) text = go (after_word (codes "[]") text)
     go None = refl
 
 pub by-between : (defined : Defined) (between text : List ℕ) (target : Option Target) → None ≡ label text → target ≡ target_between defined between
-    → reference_end defined between text ≡ leads_to target (behind_brackets text)
+    → reference_end defined between text ≡ leads_to target (after_brackets text)
 unfolding reference_end
 by-between defined between text target h same =
-    ap (either defined between text) (sym h) ∙ not-full (target_between defined between) text ∙ ap (λ t. leads_to t (behind_brackets text)) (sym same)
+    ap (either defined between text) (sym h) ∙ not-full (target_between defined between) text ∙ ap (λ t. leads_to t (after_brackets text)) (sym same)
 
 -- `[]` comes next
-pub both-brackets : (text : List ℕ) (at : ℕ) → begins_with 91 (drop at text) ≡ true → begins_with 93 (drop (at + 1) text) ≡ true → drop (at + 2) text ≡ behind_brackets (drop at text)
+pub both-brackets : (text : List ℕ) (at : ℕ) → begins_with 91 (drop at text) ≡ true → begins_with 93 (drop (at + 1) text) ≡ true → drop (at + 2) text ≡ after_brackets (drop at text)
 both-brackets text at left right =
     let two : at + 1 + 1 ≡ at + 2 = omega arith in
     sym (ap (without (drop at text)) (word-next 91 (93 ∷ []) text at left ∙ word-one 93 text (at + 1) right) ∙ ap (λ n. drop n text) two)
 
-pub not-both : (text : List ℕ) (at : ℕ) → (begins_with 91 (drop at text) ≡ true → begins_with 93 (drop (at + 1) text) ≡ false) → drop at text ≡ behind_brackets (drop at text)
+pub not-both : (text : List ℕ) (at : ℕ) → (begins_with 91 (drop at text) ≡ true → begins_with 93 (drop (at + 1) text) ≡ false) → drop at text ≡ after_brackets (drop at text)
 not-both text at h = go (begins_with 91 (drop at text)) refl
   where
-    go : (next : Bool) → begins_with 91 (drop at text) ≡ next → drop at text ≡ behind_brackets (drop at text)
+    go : (next : Bool) → begins_with 91 (drop at text) ≡ next → drop at text ≡ after_brackets (drop at text)
     go true e = sym (ap (without (drop at text)) (word-next 91 (93 ∷ []) text at e ∙ word-none 93 [] (drop (at + 1) text) (h e)))
     go false e = sym (ap (without (drop at text)) (word-none 91 (93 ∷ []) (drop at text) e))
 
@@ -166,48 +178,42 @@ module _ (source : List ℕ) (before at : ℕ) where
 -- The whole
 
 -- the result of a scanner that may have found nothing
-pub turned : {E : Type 0} (source : List ℕ) (r : Result (Option LinkEnd) E) (a b : Option brackets.LinkEnd) → a ≡ b → IfOk r (λ found. ends_of source found ≡ a) → IfOk r (λ found. ends_of source found ≡ b)
-turned source r a b e h = subst (λ x. IfOk r (λ found. ends_of source found ≡ x)) e h
+pub turned : {E : Type 0} (leaf : Leaf) (r : Result (Option LinkEnd) E) (a b : Option brackets.LinkEnd) → a ≡ b → IfOk r (λ found. ends_of leaf found ≡ a) → IfOk r (λ found. ends_of leaf found ≡ b)
+turned leaf r a b e h = subst (λ x. IfOk r (λ found. ends_of leaf found ≡ x)) e h
 
--- what a reference leads to, in this source
-pub led : {E : Type 0} (rules : Rules) (source : List ℕ) (r : Result (Option LinkEnd) E) (target : Option Target) (end : ℕ) (b : Option brackets.LinkEnd) → leads_to target (drop end source) ≡ b
-    → IfOk r (λ found. (s : List ℕ) → ends_of s found ≡ end_if_followed rules (leads_to target (drop end s))) → IfOk r (λ found. ends_of source found ≡ end_if_followed rules b)
-led rules source (Ok found) target end b e h = h source ∙ ap (end_if_followed rules) e
-led rules source (Err f) target end b e h = tt
+module _ (rules : Rules) (leaf : Leaf) where
+  -- an end that was found ends after the right bracket
+  pub ends-behind : (at : ℕ) (between : List ℕ) (e : LinkEnd) → at < length leaf.source.now → ends_of leaf (Some e) ≡ end_at rules (defined_by leaf) between (drop (at + 1) leaf.source.now)
+      → IsCharBoundary leaf.source.now e.end → at < e.end
+  ends-behind at between e within h boundary =
+      let source = leaf.source.now in
+      let target = target_in source leaf.definitions.now e.target in
+      let left = end_at-end rules (defined_by leaf) between (drop (at + 1) source) (record { dest = target.0; title = target.1; rest = drop e.end source }) (sym h) in
+      omega (arith, within, boundary.0, ap length left.is, length-append left.front (drop e.end source), length-drop (at + 1) source, length-drop e.end source)
 
--- an end that was found ends after the right bracket
-pub place : (source : List ℕ) (at : ℕ) (rules : Rules) (defined : Defined) (between : List ℕ) (found : Option LinkEnd) → at < length source → ends_of source found ≡ end_at rules defined between (drop (at + 1) source)
-    → IfSome found (λ e. IsCharBoundary source e.end) → IfSome found (λ e. (at < e.end) × (e.end ≤ length source) × IsCharBoundary source e.end)
-place source at rules defined between None within h boundary = tt
-place source at rules defined between (Some e) within h boundary =
-    let left = end_at-end rules defined between (drop (at + 1) source) (record { dest = (found_target e.target).0; title = (found_target e.target).1; rest = drop e.end source }) (sym h) in
-    let low : at < e.end = omega (arith, within, boundary.0, ap length left.is, length-append left.front (drop e.end source), length-drop (at + 1) source, length-drop e.end source) in
-    (low, boundary.0, boundary)
+  -- an end that was found, if one was, is behind the right bracket
+  pub placed : {E : Type 0} (at : ℕ) (between : List ℕ) (r : Result (Option LinkEnd) E) → at < length leaf.source.now
+      → IfOk r (λ found. ends_of leaf found ≡ end_at rules (defined_by leaf) between (drop (at + 1) leaf.source.now)) → IfOk r (λ found. IfSome found (IsPlaced leaf))
+      → IfOk r (λ found. IfSome found (λ e. (at < e.end) × IsPlaced leaf e))
+  placed at between (Ok None) within h place = tt
+  placed at between (Ok (Some e)) within h place = (ends-behind at between e within h place.0, place)
+  placed at between (Err f) within h place = tt
 
-pub place-in : {E : Type 0} (source : List ℕ) (at : ℕ) (rules : Rules) (defined : Defined) (between : List ℕ) (r : Result (Option LinkEnd) E) → at < length source
-    → IfOk r (λ found. ends_of source found ≡ end_at rules defined between (drop (at + 1) source)) → IfOk r (λ found. IfSome found (λ e. IsCharBoundary source e.end))
-    → IfOk r (λ found. IfSome found (λ e. (at < e.end) × (e.end ≤ length source) × IsCharBoundary source e.end))
-place-in source at rules defined between (Ok found) within h boundary = place source at rules defined between found within h boundary
-place-in source at rules defined between (Err e) within h boundary = tt
+  abbrev first_of : List ℕ → List ℕ → Option brackets.LinkEnd → Option brackets.LinkEnd
+  first_of between text o = elim o [ Some end ↦ Some end | None ↦ end_if_followed rules (reference_end (defined_by leaf) between text) ]
 
-abbrev first_of : Rules → Defined → List ℕ → List ℕ → Option brackets.LinkEnd → Option brackets.LinkEnd
-first_of rules defined between text o = elim o [ Some end ↦ Some end | None ↦ end_if_followed rules (reference_end defined between text) ]
+  -- an inline link's end goes first
+  pub inline-first : (between text : List ℕ) (found : Option LinkEnd) (e : LinkEnd) → found ≡ Some e → ends_of leaf found ≡ end_if_followed rules (inline_end text)
+      → ends_of leaf (Some e) ≡ end_at rules (defined_by leaf) between text
+  unfolding end_at
+  inline-first between text found e same h = ap (first_of between text) (ap (ends_of leaf) (sym same) ∙ h)
 
--- an inline link's end goes first
-pub inline-first : (source : List ℕ) (rules : Rules) (defined : Defined) (between text : List ℕ) (found : Option LinkEnd) (e : LinkEnd) → found ≡ Some e → ends_of source found ≡ end_if_followed rules (inline_end text)
-    → ends_of source (Some e) ≡ end_at rules defined between text
-unfolding end_at
-inline-first source rules defined between text found e same h = ap (first_of rules defined between text) (ap (ends_of source) (sym same) ∙ h)
-
-pub no-inline : (source : List ℕ) (rules : Rules) (defined : Defined) (between text : List ℕ) (found : Option LinkEnd) → found ≡ None → ends_of source found ≡ end_if_followed rules (inline_end text)
-    → end_if_followed rules (reference_end defined between text) ≡ end_at rules defined between text
-unfolding end_at
-no-inline source rules defined between text found none h = ap (first_of rules defined between text) (ap (ends_of source) (sym none) ∙ h)
+  pub no-inline : (between text : List ℕ) (found : Option LinkEnd) → found ≡ None → ends_of leaf found ≡ end_if_followed rules (inline_end text)
+      → end_if_followed rules (reference_end (defined_by leaf) between text) ≡ end_at rules (defined_by leaf) between text
+  unfolding end_at
+  no-inline between text found none h = ap (first_of between text) (ap (ends_of leaf) (sym none) ∙ h)
 
 -- an end by whether the rules follow where it leads
 module _ (rules : Rules) (end : brackets.LinkEnd) where
   pub end-followed : is_followed rules end.dest ≡ true → Some end ≡ end_if_followed rules (Some end)
   end-followed on = sym (ap (λ (t : Bool). elim t as (λ _. Option brackets.LinkEnd) [ true ↦ Some end | false ↦ None ]) on)
-
-  pub end-not-followed : is_followed rules end.dest ≡ false → None ≡ end_if_followed rules (Some end)
-  end-not-followed off = sym (ap (λ (t : Bool). elim t as (λ _. Option brackets.LinkEnd) [ true ↦ Some end | false ↦ None ]) off)

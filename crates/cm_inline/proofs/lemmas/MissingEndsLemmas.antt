@@ -22,7 +22,7 @@ use Rattle.cm_scan.proofs.lemmas.spans.RawHtmlNeedsItsEnd.{comment-needs, instru
 use Rattle.cm_inline.specs.declared.missing_ends.Form.{Form}
 use Rattle.cm_inline.specs.declared.missing_ends.Form.TheVariants.{Comment, Instruction, CharacterData, Declaration}
 use Rattle.cm_inline.specs.declared.missing_ends.MissingEnds.{MissingEnds}
-use Rattle.cm_inline.specs.steps.Missing.{start_of, end_of, Missing, missing_from, behind_last, Knows, NoneFrom}
+use Rattle.cm_inline.specs.steps.Missing.{start_of, end_of, Missing, missing_from, after_last, Knows, NoneFrom}
 
 -- no word is at the end of a source
 past-nothing : (word : List ℕ) → behind_word word [] ≡ None
@@ -99,21 +99,21 @@ not-key : (key count : ℕ) → (key ≡ count → ⊥) → is_at (nat_cmp key) 
 not-key key count other = grind (arith, nat_tests, other)
 
 module _ (last next : BTreeMap ℕ ℕ) (key end : ℕ) (updates : Updates nat_cmp last next key (Some end)) where
-  behind-this : behind_last next key ≡ end
+  behind-this : after_last next key ≡ end
   behind-this = ap (λ o. option_map_or (λ e. e) o 0) updates.1
 
-  behind-other : (count : ℕ) → (key ≡ count → ⊥) → behind_last next count ≡ behind_last last count
+  behind-other : (count : ℕ) → (key ≡ count → ⊥) → after_last next count ≡ after_last last count
   behind-other count other = ap (λ o. option_map_or (λ e. e) o 0) (updates.2 count (not-key key count other))
 
   -- what isn't found after one more backtick string isn't found after the last one of its length
   pub none-behind-last : (source : List ℕ) (at plain : ℕ) → Found source at plain → end ≡ at + plain + run_length 96 (drop (at + plain) source)
       → drop end source ≡ after_run 96 (drop (at + plain) source) → key ≡ end - (at + plain)
-      → ((count : ℕ) → up_to_run count false (drop at source) ≡ None → up_to_run count false (drop (behind_last last count) source) ≡ None)
-      → (count : ℕ) → up_to_run count false (drop end source) ≡ None → up_to_run count false (drop (behind_last next count) source) ≡ None
+      → ((count : ℕ) → up_to_run count false (drop at source) ≡ None → up_to_run count false (drop (after_last last count) source) ≡ None)
+      → (count : ℕ) → up_to_run count false (drop end source) ≡ None → up_to_run count false (drop (after_last next count) source) ≡ None
   none-behind-last source at plain found run left size before count none = go (cases_eq key count)
     where
-      go : (key ≡ count) ⊎ (key ≡ count → ⊥) → up_to_run count false (drop (behind_last next count) source) ≡ None
-      go (inl same) = ap (λ k. up_to_run count false (drop k source)) (ap (behind_last next) (sym same) ∙ behind-this) ∙ none
+      go : (key ≡ count) ⊎ (key ≡ count → ⊥) → up_to_run count false (drop (after_last next count) source) ≡ None
+      go (inl same) = ap (λ k. up_to_run count false (drop k source)) (ap (after_last next) (sym same) ∙ behind-this) ∙ none
       go (inr other) =
           ap (λ k. up_to_run count false (drop k source)) (behind-other count other)
           ∙ before count (none-before count source at plain found end run left (λ e. other (size ∙ e)) none)

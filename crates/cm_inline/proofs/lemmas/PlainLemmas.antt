@@ -21,11 +21,15 @@ use Rattle.cm_scan.specs.laws.InlineLaws.{is_plain_byte}
 use Rattle.cm_scan.proofs.lemmas.inlines.ReadingSteps.{plain_front_is_text, spaces_and_line_feed}
 use Rattle.cm_scan.proofs.lemmas.inlines.PairingLemmas.{pair_all-stop}
 use Rattle.cm_inline.specs.steps.Depths.{items_depth}
+use Rattle.cm_inline.specs.steps.Marks.{stays_text}
 use Rattle.cm_inline.specs.steps.Reads.{IsAllText, IsTextTo}
-use Rattle.cm_inline.proofs.lemmas.DeeperLemmas.{settled-items}
+use Rattle.cm_inline.proofs.lemmas.PairDepthLemmas.{settled-items}
 use Rattle.cm_inline.proofs.lemmas.DepthLemmas.{soft-depth}
-use Rattle.cm_inline.proofs.lemmas.HtmlLemmas.{before-html}
+use Rattle.cm_inline.proofs.lemmas.HtmlLemmas.{text-html}
+use Rattle.cm_inline.proofs.lemmas.JoinLemmas.{all-append}
+use Rattle.cm_inline.proofs.lemmas.ReadingLemmas.{before-html}
 use Rattle.cm_inline.proofs.lemmas.SliceLemmas.{slice-front, before-later, one-slice}
+use Rattle.cm_inline.proofs.lemmas.StandLemmas.{stays-any}
 use Rattle.cm_inline.proofs.lemmas.WholeLemmas.{items_from}
 
 -- a byte as an item: a line feed is a soft line break
@@ -56,6 +60,19 @@ plain-items (b ∷ bs) plain =
   where
     other : (b : ℕ) → is_plain_byte b ≡ true → (b == 10) ≡ false
     other b e = grind (arith, nat_tests, e)
+
+-- No byte up to a place is escaped.
+abbrev pub IsPlainTo : List ℕ → ℕ → Type 0
+IsPlainTo source at = list_all (stays_text false) (take at source) ≡ true
+
+plain-join : (source : List ℕ) (at end : ℕ) → at ≤ end → list_all (stays_text false) (slice_range source at end) ≡ true → IsPlainTo source at → IsPlainTo source end
+plain-join source at end low text plain = ap (list_all (stays_text false)) (front-with source at end low) ∙ all-append (stays_text false) (take at source) (slice_range source at end) plain text
+
+pub plain-further : (source : List ℕ) (at end : ℕ) → IsTextTo source at end → IsPlainTo source at → IsPlainTo source end
+plain-further source at end is = plain-join source at end is.low (stays-any false (slice_range source at end) is.stays)
+
+pub plain-feed : (source : List ℕ) (at : ℕ) → at < length source → get_or source at 0 ≡ 10 → IsPlainTo source at → IsPlainTo source (at + 1)
+plain-feed source at within byte = plain-join source at (at + 1) (omega arith) (ap (list_all (stays_text false)) (one-slice source at within ∙ ap (λ b. b ∷ []) byte))
 
 -- text more
 pub text-further : (source : List ℕ) (at end : ℕ) → IsTextTo source at end → ReadsAsText source at → ReadsAsText source end
@@ -139,10 +156,10 @@ unfolding inlines_of
 inlines-are source at past read rules defined =
     ap (λ t. settled (pair_all t)) (all-items source at past read rules defined) ∙ ap settled (pair_all-stop (line_items source) (none-pairs source []))
 
-pub all-text : (source : List ℕ) (at : ℕ) → length source ≤ at → ReadsAsText source at → IsAllText source
+pub all-text : (source : List ℕ) (at : ℕ) → length source ≤ at → ReadsAsText source at → IsPlainTo source at → IsAllText source
 unfolding depth_of_leaf
-all-text source at past read = record {
-  html = λ rules defined. ap inlines_html (inlines-are source at past read rules defined) ∙ settled-html [] source;
+all-text source at past read plain = record {
+  html = λ rules defined. ap inlines_html (inlines-are source at past read rules defined) ∙ settled-html [] source ∙ text-html source (ap (list_all (stays_text false)) (sym (take_all at source past)) ∙ plain);
   flat = λ rules defined limit. ap (nat_lt limit) (ap inlines_depth (inlines-are source at past read rules defined) ∙ settled-items (line_items source) ∙ none-deep source) ∙ none-below limit;
 }
   where

@@ -1,572 +1,649 @@
--- What brackets come to, kept with all that is known of the nodes.
-use Rattle.std.proofs.Common.{◌≡◌, ℕ, zero, suc, ◌+◌, ◌-◌, ◌^◌, ◌<◌, ◌≤◌, Bool, true, false, not, ◌||◌, List, [], ◌∷◌, ◌++◌, length, take, drop, set, refl, sym, ap, subst, ◌∙◌, arith, append_assoc, length-append, length-drop, take-take}
-use Rattle.std.specs.Prelude.{Option, Some, None, nat_lt, if◌then◌else◌, IsUtf8, Result, Ok, Err, OnOk}
-use Rattle.std.specs.List.{slice_range}
+-- A source as far as it is read, with text or an atom more.
+use Rattle.std.proofs.Common.{◌≡◌, ◌⊎◌, inl, inr, ℕ, ◌+◌, ◌^◌, ◌<◌, ◌≤◌, ◌==◌, Bool, true, false, ◌||◌, List, [], ◌∷◌, ◌++◌, length, drop, get_or, reverse, Option, Some, None, refl, sym, ap, subst, ◌∙◌, arith, append-nil, length-append}
+use Rattle.std.specs.Prelude.{nat_lt, not, ◌&&◌, replicate, slice_index, if◌then◌else◌, IsUtf8, encode_utf8, encode_utf8_all}
+use Rattle.std.specs.List.{slice_range, list_all, concat}
 use Rattle.std.specs.Str.{IsCharBoundary}
 use Rattle.std.proofs.lemmas.Bool.Decides.{nat_tests}
-use Rattle.std.proofs.lemmas.List.{append-nil, map-append}
-use Rattle.std.proofs.lemmas.Str.{IsCharBoundary-start, IsCharBoundary-after_ascii}
-use Rattle.std.proofs.Math.Seq.{take-append_seam, set-append_seam}
-use Rattle.cm_tree.specs.declared.tree.Inline.{Inline}
-use Rattle.cm_tree.specs.declared.tree.Inline.TheVariants.{Link, Image}
-use Rattle.cm_tree.specs.Depth.{depth_of, inlines_depth}
-use Rattle.cm_scan.specs.inlines.Pairing.{Item, bracket_text, settled, pair_all, emphasis_of}
+use Rattle.std.proofs.lemmas.List.{reverse-append, map-append, length-map, get_or_push}
+use Rattle.std.proofs.lemmas.Str.{IsCharBoundary-start}
 use Rattle.cm_text.specs.Rules.{Rules}
-use Rattle.std.proofs.lemmas.List.Sums.{sum_by-cons}
-use Rattle.std.proofs.lemmas.Option.{same_Some}
-use Rattle.cm_scan.specs.inlines.Atoms.{Atom, Plain, Whole, Delimiter, OpenBracket, CloseBracket}
-use Rattle.cm_scan.specs.inlines.Brackets.{Defined, is_linked, holds_link, made}
-use Rattle.cm_tree.specs.Definitions.{Target}
+use Rattle.cm_text.specs.declared.references.Chars.{Chars}
+use Rattle.cm_text.specs.References.{chars_of}
+use Rattle.cm_tree.specs.Definitions.{Targets}
+use Rattle.cm_scan.specs.inlines.Brackets.{Defined, defined_in, is_linked, holds_link}
+use Rattle.cm_scan.specs.inlines.Pairing.{Item, Characters, Finished, Opener, bracket_text}
+use Rattle.cm_inline.specs.declared.atoms.Atom.{Atom}
+use Rattle.cm_inline.specs.declared.atoms.Atom.TheVariants as atoms
 use Rattle.cm_inline.specs.declared.brackets.Bracket.{Bracket}
+use Rattle.cm_inline.specs.declared.brackets.Reader.{Reader}
+use Rattle.cm_inline.specs.declared.delimiter_runs.DelimiterRun.{DelimiterRun}
+use Rattle.cm_inline.specs.declared.marks.Mark.{Mark}
 use Rattle.cm_inline.specs.declared.missing_ends.MissingEnds.{MissingEnds}
-use Rattle.cm_inline.specs.declared.links.LinkEnd.{LinkEnd}
-use Rattle.cm_inline.specs.steps.Nodes.{Node, Piece, Characters, Finished, Run, Opener, item_of, items_of, nodes_depth, rest_in, text_between, IsPart, IsOpener, AreParts}
-use Rattle.cm_inline.specs.steps.Nodes as nodes
-use Rattle.cm_inline.specs.Emphases.{emphases}
-use Rattle.cm_inline.specs.steps.Pairs.{AreLooks, Keeps, allowed, allowance, items_emphases}
-use Rattle.cm_inline.specs.steps.Links.{ends_of}
-use Rattle.cm_inline.specs.steps.Depths.{items_depth}
+use Rattle.cm_inline.specs.declared.marks.Kind.{Kind}
+use Rattle.cm_inline.specs.declared.marks.Kind.TheVariants as kinds
+use Rattle.cm_inline.specs.declared.runs.Run.{Run as HeldRun}
+use Rattle.cm_inline.specs.steps.pairing.Events.{Event, Text, Whole}
+use Rattle.cm_tree.specs.declared.tree.Inline.TheVariants as inline
+use Rattle.cm_inline.specs.steps.pairing.Parts.{Pair, PairedRun, Part, Numbered, Known, events_of, IsNoRun}
+use Rattle.cm_inline.specs.steps.pairing.Passes.{number_after}
+use Rattle.cm_inline.specs.steps.pairing.Readings.{starts_in, StandFor}
+use Rattle.cm_inline.specs.steps.pairing.Segments.{Segment, Waiting, Made, is_run, items_in, all_parts, numbers_in, AreSegments}
+use Rattle.cm_inline.specs.steps.pairing.States.{AreChained}
+use Rattle.cm_inline.specs.steps.Brackets.{MarkedLeaf, is_opener, has_opener, AreClosed, opened, AreOpen, View, view_of, leaf_of, events_for, IsRead, IsReadTo, Reading, marks_for, runs_for, numbers_for, brackets_for, Puts}
+use Rattle.cm_inline.specs.steps.Marks.{mark_at, part_of_kind, texts, parts_between, stays_text, is_escaped, IsUnmarked, IsOfKind, AreLaid}
 use Rattle.cm_inline.specs.steps.Missing.{Knows}
-use Rattle.cm_inline.specs.steps.Reads.{Stands, atom_in, item_for, IsAtom}
-use Rattle.cm_inline.specs.declared.groups.Kind.{Kind}
-use Rattle.cm_inline.specs.steps.Groups.{made_of, made_by}
-use Rattle.cm_inline.specs.steps.Brackets.{bracket_in, brackets_from, AreBefore, LinksEnd, IsRead, outside_of, inside_of, link_of, link_made, left_as_text, closed_at, end_for}
-use Rattle.cm_inline.proofs.lemmas.BracketLemmas.{Split, split-last, brackets-append, outside-is, inside-is, link-behind, closes-opener, closed_or}
-use Rattle.cm_inline.proofs.lemmas.KeepsLemmas.{keeps-link, keeps-text}
-use Rattle.cm_inline.proofs.lemmas.PairLemmas.{parts-append, allowance-both, parts-split}
-use Rattle.cm_inline.proofs.lemmas.DeeperLemmas.{both, settled-items, link-depth, image-depth, made-depth}
-use Rattle.cm_inline.proofs.lemmas.EmphasisLemmas.{settled-holds}
-use Rattle.cm_inline.proofs.lemmas.SliceLemmas.{one-slice}
-use Rattle.cm_inline.proofs.lemmas.DepthLemmas.{settled-depth}
-use Rattle.cm_inline.proofs.lemmas.NodeLemmas.{parts-drop}
+use Rattle.cm_inline.specs.steps.Reads.{IsAtom, item_in, inline_in, IsThere, IsInline, IsTextTo, Pays, ahead, text_items}
+use Rattle.cm_inline.specs.steps.Runs.{run_of, runs_in, pairs_in, byte_of}
+use Rattle.cm_inline.proofs.lemmas.DepthLemmas.{inline-shallow}
+use Rattle.cm_inline.proofs.lemmas.JoinLemmas.{later-more, parts-none, parts-one}
+use Rattle.cm_inline.proofs.lemmas.OpenLemmas.{open-more, open-later, open-opened, items-append, all_parts-append, numbers-append}
+use Rattle.cm_inline.proofs.lemmas.PaysLemmas.{nothing-pays, text-pays, atom-more-pays}
+use Rattle.cm_inline.proofs.lemmas.ClosingLemmas.{events-append, chain-zero}
+use Rattle.cm_inline.proofs.lemmas.ReadingLemmas.{starts-append}
+use Rattle.cm_inline.proofs.lemmas.SliceLemmas.{slice-none}
+use Rattle.cm_inline.specs.declared.delimiter_runs.Marker.{Marker}
+use Rattle.cm_inline.specs.steps.Searching.{IsMarked}
+use Rattle.cm_inline.specs.steps.pairing.Parts.{no_run as no_paired_run, run_events}
+use Rattle.cm_inline.specs.steps.pairing.States.{no_run}
+use Rattle.cm_inline.specs.steps.pairing.Segments.{fresh}
+use Rattle.cm_inline.specs.steps.pairing.Events.{Rest}
+use Rattle.cm_inline.specs.steps.Runs.{paired_run}
+use Rattle.cm_inline.proofs.lemmas.StandLemmas.{events-more, segments-parts, text-stands, cut-stands, opener-stands, inline-stands, known-made, texts-known, texts-stand, stays-any, AreKnown, runs-append}
+use Rattle.cm_inline.proofs.lemmas.CallerLemmas.{behind-append, segments-append, segments-push, chained-none, chained-push}
+use Rattle.cm_inline.proofs.lemmas.WholeLemmas.{ahead-start, ahead-text, ahead-atom}
 
--- what follows of what holds where a call did its work
-pub then-ok : {T E P Q : Type 0} (r : Result T E) → (P → Q) → OnOk r P → OnOk r Q
-then-ok (Ok x) f p = f p
-then-ok (Err e) f p = tt
+nothing-unmarked : (lines : Bool) (source : List ℕ) (at : ℕ) → IsCharBoundary source at → IsUnmarked lines source at at
+nothing-unmarked lines source at boundary = record { between = (omega arith, boundary, boundary); text = ap (list_all (stays_text lines)) (slice-none source at) }
 
--- links among nodes from a number on
+-- views that are the same in each part
+pub same-view : (v w : View) → v.lines ≡ w.lines → v.marks ≡ w.marks → v.runs ≡ w.runs → v.waiting ≡ w.waiting → v.pairs ≡ w.pairs → v.links ≡ w.links → v.links_end ≡ w.links_end → v.ends ≡ w.ends → v ≡ w
+same-view v w lines marks runs waiting pairs links links_end ends =
+    ap (λ (x : View). record v { lines = x.lines }) (ap (λ l. record v { lines = l }) lines)
+    ∙ ap (λ t. record v { lines = w.lines; marks = t }) marks ∙ ap (λ t. record v { lines = w.lines; marks = w.marks; runs = t }) runs ∙ ap (λ t. record v { lines = w.lines; marks = w.marks; runs = w.runs; waiting = t }) waiting
+    ∙ ap (λ t. record w { pairs = t; links = v.links; links_end = v.links_end; ends = v.ends }) pairs ∙ ap (λ t. record w { links = t; links_end = v.links_end; ends = v.ends }) links
+    ∙ ap (λ t. record w { links_end = t; ends = v.ends }) links_end ∙ ap (λ t. record w { ends = t }) ends
 
-holds-append : (source : List ℕ) (xs ys : List Node) → holds_link (items_of source (xs ++ ys)) ≡ holds_link (items_of source xs) || holds_link (items_of source ys)
-unfolding holds_link
-holds-append source [] ys = refl
-holds-append source (x ∷ xs) ys = go (is_linked (item_of source x)) (holds-append source xs ys)
-  where
-    go : (v : Bool) → holds_link (items_of source (xs ++ ys)) ≡ holds_link (items_of source xs) || holds_link (items_of source ys)
-        → v || holds_link (items_of source (xs ++ ys)) ≡ (v || holds_link (items_of source xs)) || holds_link (items_of source ys)
-    go true e = refl
-    go false e = e
+abbrev pub fresh_view : Bool → MissingEnds → View
+fresh_view lines ends = record { lines = lines; marks = []; runs = []; waiting = []; pairs = []; links = []; links_end = 0; ends = ends }
 
-pub holds-drop : (source : List ℕ) (n : ℕ) (xs ys : List Node)
-    → holds_link (items_of source (drop n (xs ++ ys))) ≡ holds_link (items_of source (drop n xs)) || holds_link (items_of source (drop (n - length xs) ys))
-unfolding holds_link
-holds-drop source zero xs ys =
-    let none : zero - length xs ≡ zero = omega arith in
-    holds-append source xs ys ∙ ap (λ m. holds_link (items_of source xs) || holds_link (items_of source (drop m ys))) (sym none)
-holds-drop source (suc n) [] ys = let same : suc n - zero ≡ suc n = omega arith in ap (λ m. holds_link (items_of source (drop m ys))) (sym same)
-holds-drop source (suc n) (x ∷ xs) ys =
-    let same : suc n - length (x ∷ xs) ≡ n - length xs = omega arith in
-    holds-drop source n xs ys ∙ ap (λ m. holds_link (items_of source (drop n xs)) || holds_link (items_of source (drop m ys))) (sym same)
-
--- a node that is no link in place of another
-same-links : (source : List ℕ) (x y : Node) (nodes : List Node) (n : ℕ) → is_linked (item_of source x) ≡ is_linked (item_of source y) → holds_link (items_of source (drop n (x ∷ nodes))) ≡ holds_link (items_of source (drop n (y ∷ nodes)))
-unfolding holds_link
-same-links source x y nodes zero e = ap (λ v. v || holds_link (items_of source nodes)) e
-same-links source x y nodes (suc n) e = refl
-
-none-linked : (source : List ℕ) (x : Node) (n : ℕ) → is_linked (item_of source x) ≡ false → holds_link (items_of source (drop n (x ∷ []))) ≡ false
-unfolding holds_link
-none-linked source x zero e = ap (λ v. v || false) e
-none-linked source x (suc zero) e = refl
-none-linked source x (suc (suc n)) e = refl
-
-or-false : (v w : Bool) → w ≡ false → v || w ≡ v
-or-false true w e = refl
-or-false false w e = e
-
--- nodes with one more that is no link
-pub links-more : (source : List ℕ) (nodes : List Node) (x : Node) (end : ℕ) → is_linked (item_of source x) ≡ false → LinksEnd source nodes end → LinksEnd source (nodes ++ x ∷ []) end
-links-more source nodes x end other links = λ n.
-    holds-drop source n nodes (x ∷ []) ∙ or-false (holds_link (items_of source (drop n nodes))) (holds_link (items_of source (drop (n - length nodes) (x ∷ [])))) (none-linked source x (n - length nodes) other) ∙ links n
-
-links-in-place : (source : List ℕ) (front inside : List Node) (x y : Node) (end : ℕ) → is_linked (item_of source x) ≡ is_linked (item_of source y) → LinksEnd source (front ++ x ∷ inside) end → LinksEnd source (front ++ y ∷ inside) end
-links-in-place source front inside x y end same links = λ n.
-    holds-drop source n front (y ∷ inside)
-    ∙ ap (λ v. holds_link (items_of source (drop n front)) || v) (sym (same-links source x y inside (n - length front) same))
-    ∙ sym (holds-drop source n front (x ∷ inside)) ∙ links n
-
-past : (source : List ℕ) (n : ℕ) (nodes : List Node) → length nodes ≤ n → holds_link (items_of source (drop n nodes)) ≡ false
-unfolding holds_link
-past source zero [] low = refl
-past source (suc n) [] low = refl
-past source zero (x ∷ nodes) low = absurd (omega (arith, low))
-past source (suc n) (x ∷ nodes) low = past source n nodes (omega (arith, low))
-
--- nodes with one more that is a link
-pub links-linked : (source : List ℕ) (nodes : List Node) (x : Node) → is_linked (item_of source x) ≡ true → LinksEnd source (nodes ++ x ∷ []) (length nodes + 1)
-unfolding holds_link
-links-linked source nodes x is = λ n. holds-drop source n nodes (x ∷ []) ∙ go n (nat_lt n (length nodes + 1)) refl
-  where
-    inner : (n : ℕ) → n ≡ 0 → holds_link (items_of source (drop n (x ∷ []))) ≡ true
-    inner zero e = ap (λ v. v || false) is
-    inner (suc n) e = absurd (omega (arith, e))
-
-    or-true : (v : Bool) → v || true ≡ true
-    or-true true = refl
-    or-true false = refl
-
-    go : (n : ℕ) (below : Bool) → nat_lt n (length nodes + 1) ≡ below → holds_link (items_of source (drop n nodes)) || holds_link (items_of source (drop (n - length nodes) (x ∷ []))) ≡ nat_lt n (length nodes + 1)
-    go n true e =
-        let low : n < length nodes + 1 = grind (arith, nat_tests, e) in
-        let none : n - length nodes ≡ 0 = omega (arith, low) in
-        ap (λ v. holds_link (items_of source (drop n nodes)) || v) (inner (n - length nodes) none) ∙ or-true (holds_link (items_of source (drop n nodes))) ∙ sym e
-    go n false e =
-        let high : length nodes + 1 ≤ n = grind (arith, nat_tests, e) in
-        let size : length (x ∷ []) ≡ 1 = refl in
-        ap (λ v. v || holds_link (items_of source (drop (n - length nodes) (x ∷ [])))) (past source n nodes (omega (arith, high))) ∙ past source (n - length nodes) (x ∷ []) (omega (arith, high, size)) ∙ sym e
-
--- nodes without a link are followed by none
-drop-none : (source : List ℕ) (n : ℕ) (nodes : List Node) → holds_link (items_of source nodes) ≡ false → holds_link (items_of source (drop n nodes)) ≡ false
-unfolding holds_link
-drop-none source zero nodes e = e
-drop-none source (suc n) [] e = e
-drop-none source (suc n) (x ∷ nodes) e = drop-none source n nodes (tail (is_linked (item_of source x)) (holds_link (items_of source nodes)) e)
-  where
-    tail : (v w : Bool) → v || w ≡ false → w ≡ false
-    tail true w e = absurd (cc e)
-    tail false w e = e
-
-links-cut : (source : List ℕ) (front rest : List Node) (end : ℕ) → holds_link (items_of source rest) ≡ false → LinksEnd source (front ++ rest) end → LinksEnd source front end
-links-cut source front rest end none links = λ n.
-    sym (or-false (holds_link (items_of source (drop n front))) (holds_link (items_of source (drop (n - length front) rest))) (drop-none source (n - length front) rest none))
-    ∙ sym (holds-drop source n front rest) ∙ links n
-
--- parts and brackets of a front
-
-pub before-later : (at end : ℕ) (brackets : List Bracket) → at ≤ end → AreBefore at brackets → AreBefore end brackets
-before-later at end [] low before = tt
-before-later at end (b ∷ brackets) low before = (let first : b.behind ≤ at = before.0 in omega (arith, low, first), before-later at end brackets low before.1)
-
-pub before-split : (at : ℕ) (xs ys : List Bracket) → AreBefore at (xs ++ ys) → AreBefore at xs × AreBefore at ys
-before-split at [] ys before = (tt, before)
-before-split at (x ∷ xs) ys before = let rest = before-split at xs ys before.1 in ((before.0, rest.0), rest.1)
-
-pub before-append : (at : ℕ) (xs ys : List Bracket) → AreBefore at xs → AreBefore at ys → AreBefore at (xs ++ ys)
-before-append at [] ys front back = back
-before-append at (x ∷ xs) ys front back = (front.0, before-append at xs ys front.1 back)
-
--- the opener that a bracket is
-pub opener-is : (source : List ℕ) (nodes : List Node) (others : List Bracket) (b : Bracket) → Split nodes 0 others b → AreParts source nodes → IsOpener source b.image b.behind
-opener-is source nodes others b w parts = (parts-split source w.front (Opener b.image b.behind ∷ w.inside) (subst (AreParts source) w.whole parts)).1.0
-
--- its text
-opener-text : (source : List ℕ) (image : Bool) (behind : ℕ) → IsOpener source image behind → slice_range source (behind - length (bracket_text image)) behind ≡ bracket_text image
-opener-text source image behind o =
-    let start : behind - length (bracket_text image) ≡ o.at = omega (arith, o.place) in
-    let size : behind - o.at ≡ length (bracket_text image) = omega (arith, o.place) in
-    ap (λ n. slice_range source n behind) start ∙ ap (λ n. take n (drop o.at source)) size ∙ ap (take (length (bracket_text image))) o.front ∙ take-append_seam (bracket_text image) (drop behind source)
-
-opener-part : (source : List ℕ) (image : Bool) (behind : ℕ) → IsOpener source image behind → IsPart source (Piece (behind - length (bracket_text image)) behind)
-opener-part source image behind o =
-    let start : behind - length (bracket_text image) ≡ o.at = omega (arith, o.place) in
-    (omega arith, subst (IsCharBoundary source) (sym start) o.start, o.end)
-
--- a bracket and a `]` that are text
-
--- the nodes with text in place of their last bracket, and a `]` after them
-abbrev pub with_text : List Node → Bracket → ℕ → List Node
-with_text nodes b at = set nodes b.node (Piece (b.behind - length (bracket_text b.image)) b.behind) ++ Piece at (at + 1) ∷ []
-
-module _ (source : List ℕ) (nodes : List Node) (others : List Bracket) (b : Bracket) (w : Split nodes 0 others b) (at : ℕ) where
-  abbrev opener : Node
-  opener = Piece (b.behind - length (bracket_text b.image)) b.behind
-
-  abbrev closer : Node
-  closer = Piece at (at + 1)
-
-  text-nodes : with_text nodes b at ≡ (w.front ++ opener ∷ w.inside) ++ closer ∷ []
-  text-nodes =
-      let place : b.node ≡ length w.front = omega (arith, w.place) in
-      ap (λ t. t ++ closer ∷ []) (ap (λ t. set t b.node opener) w.whole ∙ ap (λ n. set (w.front ++ Opener b.image b.behind ∷ w.inside) n opener) place ∙ set-append_seam w.front (Opener b.image b.behind) w.inside opener)
-
-  pub text-items : AreParts source nodes → Stands source at 93 → items_of source (with_text nodes b at) ≡ left_as_text source nodes b
-  text-items parts stands =
-      ap (items_of source) text-nodes
-      ∙ map-append (item_of source) (w.front ++ opener ∷ w.inside) (closer ∷ [])
-      ∙ ap (λ t. t ++ item_of source closer ∷ []) (map-append (item_of source) w.front (opener ∷ w.inside))
-      ∙ append_assoc (items_of source w.front) (item_of source opener ∷ items_of source w.inside) (item_of source closer ∷ [])
-      ∙ ap (λ t. items_of source w.front ++ Item.Characters t ∷ (items_of source w.inside ++ item_of source closer ∷ [])) (opener-text source b.image b.behind (opener-is source nodes others b w parts))
-      ∙ ap (λ t. items_of source w.front ++ Item.Characters (bracket_text b.image) ∷ (items_of source w.inside ++ Item.Characters t ∷ [])) (one-slice source at stands.within ∙ ap (λ c. c ∷ []) stands.byte)
-      ∙ ap (λ t. items_of source t ++ Item.Characters (bracket_text b.image) ∷ (items_of source w.inside ++ Item.Characters (93 ∷ []) ∷ [])) (sym (outside-is source nodes others b w))
-      ∙ ap (λ t. outside_of source nodes b ++ Item.Characters (bracket_text b.image) ∷ (items_of source t ++ Item.Characters (93 ∷ []) ∷ [])) (sym (inside-is source nodes others b w))
-
-  behind-closer : IsUtf8 source → Stands source at 93 → IsCharBoundary source (at + 1)
-  behind-closer utf8 s = IsCharBoundary-after_ascii source at utf8 s.within (omega (arith, s.byte))
-
-  text-parts : IsUtf8 source → AreParts source nodes → Stands source at 93 → AreParts source (with_text nodes b at)
-  text-parts utf8 parts s =
-      let both = parts-split source w.front (Opener b.image b.behind ∷ w.inside) (subst (AreParts source) w.whole parts) in
-      let low : at ≤ at + 1 = omega arith in
-      subst (AreParts source) (sym text-nodes) (parts-append source (w.front ++ opener ∷ w.inside) (closer ∷ [])
-      (parts-append source w.front (opener ∷ w.inside) both.0 (opener-part source b.image b.behind (opener-is source nodes others b w parts), both.1.1)) ((low, s.boundary, behind-closer utf8 s), tt))
-
-  text-brackets : brackets_from 0 (with_text nodes b at) ≡ others
-  unfolding brackets_from
-  text-brackets =
-      let place : length w.front + 0 ≡ b.node = w.place in
-      ap (brackets_from 0) text-nodes ∙ brackets-append 0 (w.front ++ opener ∷ w.inside) (closer ∷ []) ∙ append-nil (brackets_from 0 (w.front ++ opener ∷ w.inside))
-      ∙ brackets-append 0 w.front (opener ∷ w.inside)
-      ∙ ap (λ n. brackets_from 0 w.front ++ brackets_from (suc n) w.inside) place ∙ ap (λ t. brackets_from 0 w.front ++ t) w.inner ∙ append-nil (brackets_from 0 w.front) ∙ w.outer
-
-pub text-read : (source : List ℕ) (nodes : List Node) (others : List Bracket) (b : Bracket) (at links_end : ℕ) (ends : MissingEnds) → IsUtf8 source → Stands source at 93 → IsRead source at nodes (others ++ b ∷ []) links_end ends
-    → IsRead source (at + 1) (with_text nodes b at) others links_end ends
-text-read source nodes others b at links_end ends utf8 s r =
-    let w = split-last 0 nodes others b r.unclosed in
-    let n = text-nodes source nodes others b w at in
+fresh-read : (source : List ℕ) (targets : Targets) (lines : Bool) (ends : MissingEnds) → length source < 2 ^ 32 → IsUtf8 source → Knows source ends → IsRead source targets 0 (fresh_view lines ends) [] []
+unfolding items_in all_parts numbers_in has_opener events_of number_after
+fresh-read source targets lines ends short utf8 knows =
+    let start = IsCharBoundary-start source utf8 in
     record {
-      short = r.short;
-      parts = text-parts source nodes others b w at utf8 r.parts s;
-      unclosed = text-brackets source nodes others b w at;
-      before = before-later at (at + 1) others (omega arith) (before-split at others (b ∷ []) r.before).0;
-      links = subst (λ t. LinksEnd source t links_end) (sym n) (links-more source (w.front ++ opener source nodes others b w at ∷ w.inside) (Piece at (at + 1)) links_end refl
-          (links-in-place source w.front w.inside (Opener b.image b.behind) (opener source nodes others b w at) links_end refl (subst (λ t. LinksEnd source t links_end) w.whole r.links)));
-      knows = r.knows;
-      within = (behind-closer source nodes others b w at utf8 s).0;
-      boundary = behind-closer source nodes others b w at utf8 s;
-    }
-
--- a link or an image
-
-pub link-read : (source : List ℕ) (nodes more : List Node) (others : List Bracket) (b : Bracket) (made : Node) (at links_end end : ℕ) (ends : MissingEnds) → IsRead source at nodes (others ++ b ∷ []) links_end ends
-    → more ≡ take b.node nodes ++ made ∷ [] → IsPart source made → bracket_in (length (take b.node nodes) + 0) made ≡ []
-    → LinksEnd source (take b.node nodes ++ made ∷ []) end → IsRead source at more others end ends
-unfolding brackets_from
-link-read source nodes more others b made at links_end end ends r is part none links =
-    let w = split-last 0 nodes others b r.unclosed in
-    let o = outside-is source nodes others b w in
-    let both = parts-split source w.front (Opener b.image b.behind ∷ w.inside) (subst (AreParts source) w.whole r.parts) in
-    let front = take b.node nodes in
-    record {
-      short = r.short;
-      parts = subst (AreParts source) (sym is) (parts-append source front (made ∷ []) (subst (AreParts source) (sym o) both.0) (part, tt));
-      unclosed = ap (brackets_from 0) is ∙ brackets-append 0 front (made ∷ []) ∙ ap (λ t. brackets_from 0 front ++ (t ++ [])) none ∙ append-nil (brackets_from 0 front) ∙ ap (brackets_from 0) o ∙ w.outer;
-      before = (before-split at others (b ∷ []) r.before).0;
-      links = subst (λ t. LinksEnd source t end) (sym is) links;
-      knows = r.knows;
-      within = r.within;
-      boundary = r.boundary;
-    }
-
--- where the links end before a bracket with no link after it
-pub links-before : (source : List ℕ) (nodes : List Node) (others : List Bracket) (b : Bracket) (links_end : ℕ) → Split nodes 0 others b → LinksEnd source nodes links_end → nat_lt b.node links_end ≡ false → LinksEnd source (take b.node nodes) links_end
-unfolding holds_link
-links-before source nodes others b links_end w links none =
-    let inner : holds_link (items_of source w.inside) ≡ false = ap (λ t. holds_link (items_of source t)) (sym (inside-is source nodes others b w)) ∙ link-behind source nodes others b links_end w links ∙ none in
-    subst (λ t. LinksEnd source t links_end) (sym (outside-is source nodes others b w)) (links-cut source w.front (Opener b.image b.behind ∷ w.inside) links_end inner (subst (λ t. LinksEnd source t links_end) w.whole links))
-
--- nothing is read yet
-pub nothing-read : (source : List ℕ) (nodes : List Node) (brackets : List Bracket) (ends : MissingEnds) → length source < 2 ^ 32 → IsUtf8 source → nodes ≡ [] → brackets ≡ [] → Knows source ends → IsRead source 0 nodes brackets 0 ends
-unfolding brackets_from holds_link
-nothing-read source nodes brackets ends short utf8 no-nodes no-brackets knows = record {
-  short = short;
-  parts = subst (AreParts source) (sym no-nodes) tt;
-  unclosed = ap (brackets_from 0) no-nodes ∙ sym no-brackets;
-  before = subst (AreBefore 0) (sym no-brackets) tt;
-  links = subst (λ t. LinksEnd source t 0) (sym no-nodes) none;
-  knows = knows;
-  within = omega arith;
-  boundary = IsCharBoundary-start source utf8;
-}
-  where
-    empty : (n : ℕ) → holds_link (items_of source (drop n [])) ≡ false
-    empty zero = refl
-    empty (suc n) = refl
-
-    not-below : (n : ℕ) → nat_lt n 0 ≡ false
-    not-below n = grind (arith, nat_tests)
-
-    none : LinksEnd source [] 0
-    none n = empty n ∙ sym (not-below n)
-
--- the node that a link or an image is
-
-linked-is : (source : List ℕ) (inline : List ℕ → Inline) (depth : ℕ) (holds : Bool) → is_linked (item_of source (Finished inline depth holds)) ≡ holds
-linked-is source inline depth true = refl
-linked-is source inline depth false = refl
-
-finished-is : (source : List ℕ) (inline : List ℕ → Inline) (one : Inline) (depth : ℕ) (holds : Bool) → inline source ≡ one → item_of source (Finished inline depth holds) ≡ (if holds then Item.Linked one else Item.Finished one)
-finished-is source inline one depth true e = ap Item.Linked e
-finished-is source inline one depth false e = ap Item.Finished e
-
-made-is : (image : Bool) (dest title : List ℕ) (inside : List Item) (holds : Bool) → holds ≡ (not image || holds_link inside)
-    → (if holds then Item.Linked (link_of image dest title (emphasis_of inside)) else Item.Finished (link_of image dest title (emphasis_of inside))) ≡ made image dest title inside
-made-is false dest title inside holds e = ap (λ h. if h then Item.Linked (Link dest title (emphasis_of inside)) else Item.Finished (Link dest title (emphasis_of inside))) e
-made-is true dest title inside holds e = ap (λ h. if h then Item.Linked (Image dest title (emphasis_of inside)) else Item.Finished (Image dest title (emphasis_of inside))) e
-
--- All that is known of a link or an image that was made: what it is in the source, how deep its content nests, and the nodes after it.
-pub record IsLink (source : List ℕ) (nodes more : List Node) (b : Bracket) (dest title : List ℕ) (inline : List ℕ → Inline) (depth : ℕ) (holds : Bool) (links_end : ℕ) : Type 0 where
-  pub nodes_are : more ≡ take b.node nodes ++ Finished inline (depth + 1) holds ∷ []
-  pub inline_is : inline source ≡ link_of b.image dest title (emphasis_of (inside_of source nodes b))
-  pub depth_is : depth ≡ inlines_depth (emphasis_of (inside_of source nodes b))
-  pub holds_is : holds ≡ (not b.image || nat_lt b.node links_end)
-
-module _ (source : List ℕ) (nodes more : List Node) (others : List Bracket) (b : Bracket) (dest title : List ℕ) (inline : List ℕ → Inline) (depth : ℕ) (holds : Bool) (at links_end : ℕ) (ends : MissingEnds)
-    (r : IsRead source at nodes (others ++ b ∷ []) links_end ends) (m : IsLink source nodes more b dest title inline depth holds links_end) where
-  abbrev node : Node
-  node = Finished inline (depth + 1) holds
-
-  pub link-items : items_of source more ≡ link_made source nodes b dest title
-  link-items =
-      let w = split-last 0 nodes others b r.unclosed in
-      let held : holds ≡ (not b.image || holds_link (inside_of source nodes b)) = m.holds_is ∙ ap (λ v. not b.image || v) (sym (link-behind source nodes others b links_end w r.links)) in
-      ap (items_of source) m.nodes_are ∙ map-append (item_of source) (take b.node nodes) (node ∷ [])
-      ∙ ap (λ i. outside_of source nodes b ++ i ∷ [])
-      (finished-is source inline (link_of b.image dest title (emphasis_of (inside_of source nodes b))) (depth + 1) holds m.inline_is ∙ made-is b.image dest title (inside_of source nodes b) holds held)
-
-  deep : (image : Bool) (content : List Inline) → depth_of (link_of image dest title content) ≡ inlines_depth content + 1
-  deep true content = image-depth dest title content
-  deep false content = link-depth dest title content
-
-  part : IsPart source node
-  part = ap depth_of m.inline_is ∙ deep b.image (emphasis_of (inside_of source nodes b)) ∙ ap (λ n. n + 1) (sym m.depth_is)
-
-  pub read-linked : holds ≡ true → IsRead source at more others (length more) ends
-  read-linked is =
-      let size : length more ≡ length (take b.node nodes) + 1 = ap length m.nodes_are ∙ length-append (take b.node nodes) (node ∷ []) in
-      subst (λ n. IsRead source at more others n ends) (sym size)
-      (link-read source nodes more others b node at links_end (length (take b.node nodes) + 1) ends r m.nodes_are part refl
-      (links-linked source (take b.node nodes) node (linked-is source inline (depth + 1) holds ∙ is)))
-
-  pub read-other : holds ≡ false → IsRead source at more others links_end ends
-  read-other is =
-      link-read source nodes more others b node at links_end links_end ends r m.nodes_are part refl
-      (links-more source (take b.node nodes) node links_end (linked-is source inline (depth + 1) holds ∙ is)
-      (links-before source nodes others b links_end (split-last 0 nodes others b r.unclosed) r.links (right (not b.image) (nat_lt b.node links_end) (sym m.holds_is ∙ is))))
-    where
-      right : (v w : Bool) → v || w ≡ false → w ≡ false
-      right true w e = absurd (cc e)
-      right false w e = e
-
--- a link or an image is too deep where its content nests to the limit
-pub link-deeper : (source : List ℕ) (nodes : List Node) (b : Bracket) (dest title : List ℕ) (limit : ℕ) → limit ≤ inlines_depth (emphasis_of (inside_of source nodes b)) → limit < items_depth (link_made source nodes b dest title)
-link-deeper source nodes b dest title limit deep =
-    let made-one = made b.image dest title (inside_of source nodes b) in
-    omega (arith, deep, made-depth b.image dest title (inside_of source nodes b), both (outside_of source nodes b) (made-one ∷ []))
-
--- the nodes up to their last bracket, it, and those after it, as items
-items-split : (source : List ℕ) (nodes : List Node) (others : List Bracket) (b : Bracket) → Split nodes 0 others b
-    → items_of source nodes ≡ outside_of source nodes b ++ Item.Opener b.image (drop b.behind source) ∷ inside_of source nodes b
-items-split source nodes others b w =
-    ap (items_of source) w.whole ∙ map-append (item_of source) w.front (Opener b.image b.behind ∷ w.inside)
-    ∙ ap (λ t. items_of source t ++ Item.Opener b.image (drop b.behind source) ∷ items_of source w.inside) (sym (outside-is source nodes others b w))
-    ∙ ap (λ t. outside_of source nodes b ++ Item.Opener b.image (drop b.behind source) ∷ items_of source t) (sym (inside-is source nodes others b w))
-
--- the nodes from the number after a bracket on are its inside
-inside-items : (source : List ℕ) (nodes : List Node) (b : Bracket) (first : ℕ) → first ≡ b.node + 1 → items_of source (drop first nodes) ≡ inside_of source nodes b
-inside-items source nodes b first place =
-    let one : first ≡ suc b.node = omega (arith, place) in
-    ap (λ n. items_of source (drop n nodes)) one
-
--- what nodes pay for is the same in each source
-
-allowed-alike : (kinds : ℕ) (source other : List ℕ) (node : Node) → allowed kinds (item_of source node) ≡ allowed kinds (item_of other node)
-allowed-alike kinds source other (Piece from to) = refl
-allowed-alike kinds source other (Characters chars) = refl
-allowed-alike kinds source other (nodes.Whole standalone) = refl
-allowed-alike kinds source other (Finished inline depth true) = refl
-allowed-alike kinds source other (Finished inline depth false) = refl
-allowed-alike kinds source other (Run run) = refl
-allowed-alike kinds source other (Opener image behind) = refl
-
-alike : (kinds : ℕ) (source other : List ℕ) (nodes : List Node) → allowance kinds (items_of source nodes) ≡ allowance kinds (items_of other nodes)
-alike kinds source other [] = refl
-alike kinds source other (node ∷ nodes) = omega (
-  arith,
-  sum_by-cons (allowed kinds) (item_of source node) (items_of source nodes),
-  sum_by-cons (allowed kinds) (item_of other node) (items_of other nodes),
-  allowed-alike kinds source other node,
-  alike kinds source other nodes,
-)
-
--- the looks for which the inside pays, in whatever source, are among those of all nodes
-pub inside-pays : (kinds : ℕ) (source other : List ℕ) (nodes : List Node) (others : List Bracket) (b : Bracket) (first : ℕ) → Split nodes 0 others b → first ≡ b.node + 1 → allowance kinds (items_of other (drop first nodes)) ≤ allowance kinds (items_of source nodes)
-inside-pays kinds source other nodes others b first w place =
-    let opener = Item.Opener b.image (drop b.behind source) in
-    omega (
-      arith,
-      alike kinds other source (drop first nodes),
-      ap (allowance kinds) (inside-items source nodes b first place),
-      ap (allowance kinds) (items-split source nodes others b w),
-      allowance-both kinds (outside_of source nodes b) (opener ∷ inside_of source nodes b),
-      allowance-both kinds (opener ∷ []) (inside_of source nodes b),
-    )
-
--- what the looks at the inside come to, whose emphases are those of its content
-pub inside-looks : (source : List ℕ) (nodes : List Node) (b : Bracket) (first looks later : ℕ) → first ≡ b.node + 1
-    → AreLooks looks (items_of source (drop first nodes)) later (items_emphases (pair_all (items_of source (drop first nodes)))) → AreLooks looks (inside_of source nodes b) later (emphases (emphasis_of (inside_of source nodes b)))
-inside-looks source nodes b first looks later place looked =
-    let inside = inside_of source nodes b in
-    subst (AreLooks looks inside later) (sym (settled-holds (pair_all inside))) (subst (λ t. AreLooks looks t later (items_emphases (pair_all t))) (inside-items source nodes b first place) looked)
-
--- a link or an image is too deep where what its brackets pair to is
-pub paired-deeper : (source : List ℕ) (nodes : List Node) (b : Bracket) (dest title : List ℕ) (limit first : ℕ) → first ≡ b.node + 1 → limit < items_depth (pair_all (items_of source (drop first nodes))) → limit < items_depth (link_made source nodes b dest title)
-paired-deeper source nodes b dest title limit first place deep =
-    link-deeper source nodes b dest title limit (omega (arith, deep, settled-items (pair_all (inside_of source nodes b)), ap (λ t. items_depth (pair_all t)) (inside-items source nodes b first place)))
-
-pub made-keeps : (source : List ℕ) (nodes more : List Node) (others : List Bracket) (b : Bracket) (dest title : List ℕ) (looks later : ℕ) → Split nodes 0 others b → items_of source more ≡ link_made source nodes b dest title
-    → AreLooks looks (inside_of source nodes b) later (emphases (emphasis_of (inside_of source nodes b))) → Keeps looks (items_of source nodes) later (items_of source more)
-made-keeps source nodes more others b dest title looks later w is looked =
-    subst (λ t. Keeps looks t later (items_of source more)) (sym (items-split source nodes others b w)) (subst (Keeps looks (outside_of source nodes b ++ Item.Opener b.image (drop b.behind source) ∷ inside_of source nodes b) later) (sym is)
-    (keeps-link looks (outside_of source nodes b) (inside_of source nodes b) b.image (drop b.behind source) dest title later looked))
-
-pub text-keeps : (source : List ℕ) (nodes more : List Node) (others : List Bracket) (b : Bracket) (looks later : ℕ) → Split nodes 0 others b → items_of source more ≡ left_as_text source nodes b → later ≡ looks
-    → Keeps looks (items_of source nodes) later (items_of source more)
-text-keeps source nodes more others b looks later w is same =
-    subst (λ n. Keeps looks (items_of source nodes) n (items_of source more)) (sym same) (subst (λ t. Keeps looks t looks (items_of source more)) (sym (items-split source nodes others b w))
-    (subst (Keeps looks (outside_of source nodes b ++ Item.Opener b.image (drop b.behind source) ∷ inside_of source nodes b) looks) (sym is)
-    (keeps-text looks (outside_of source nodes b) (inside_of source nodes b) b.image (drop b.behind source) (bracket_text b.image) (93 ∷ []))))
-
--- reading continues at a later place
-pub read-further : (source : List ℕ) (nodes : List Node) (brackets : List Bracket) (at end links_end : ℕ) (ends : MissingEnds) → at ≤ end → IsCharBoundary source end → IsRead source at nodes brackets links_end ends
-    → IsRead source end nodes brackets links_end ends
-read-further source nodes brackets at end links_end ends low boundary r = record {
-  short = r.short;
-  parts = r.parts;
-  unclosed = r.unclosed;
-  before = before-later at end brackets low r.before;
-  links = r.links;
-  knows = r.knows;
-  within = boundary.0;
-  boundary = boundary;
-}
-
--- a piece of text more
-pub piece-read : (source : List ℕ) (nodes : List Node) (brackets : List Bracket) (at end links_end : ℕ) (ends : MissingEnds) → at ≤ end → IsCharBoundary source end → IsRead source at nodes brackets links_end ends
-    → IsRead source end (nodes ++ Piece at end ∷ []) brackets links_end ends
-unfolding brackets_from
-piece-read source nodes brackets at end links_end ends low boundary r = record {
-  short = r.short;
-  parts = parts-append source nodes (Piece at end ∷ []) r.parts ((low, r.boundary, boundary), tt);
-  unclosed = brackets-append 0 nodes (Piece at end ∷ []) ∙ append-nil (brackets_from 0 nodes) ∙ r.unclosed;
-  before = before-later at end brackets low r.before;
-  links = links-more source nodes (Piece at end) links_end refl r.links;
-  knows = r.knows;
-  within = boundary.0;
-  boundary = boundary;
-}
-
-pub text-more : (source : List ℕ) (nodes : List Node) (brackets : List Bracket) (at end links_end : ℕ) (ends : MissingEnds) → at ≤ end → IsCharBoundary source end → IsRead source at nodes brackets links_end ends
-    → IsRead source end (nodes ++ text_between at end) brackets links_end ends
-text-more source nodes brackets at end links_end ends low boundary r = go (nat_lt at end)
-  where
-    go : (some : Bool) → IsRead source end (nodes ++ (if some then Piece at end ∷ [] else [])) brackets links_end ends
-    go true = piece-read source nodes brackets at end links_end ends low boundary r
-    go false = subst (λ t. IsRead source end t brackets links_end ends) (sym (append-nil nodes)) (read-further source nodes brackets at end links_end ends low boundary r)
-
--- a `]` that closes nothing
-pub closer-read : (source : List ℕ) (nodes : List Node) (brackets : List Bracket) (at links_end : ℕ) (ends : MissingEnds) → IsUtf8 source → Stands source at 93 → IsRead source at nodes brackets links_end ends
-    → IsRead source (at + 1) (nodes ++ Piece at (at + 1) ∷ []) brackets links_end ends
-closer-read source nodes brackets at links_end ends utf8 s r =
-    piece-read source nodes brackets at (at + 1) links_end ends (omega arith) (IsCharBoundary-after_ascii source at utf8 s.within (omega (arith, s.byte))) r
-
--- an atom more
-
-no-link : (a : Atom) (rest : List ℕ) (i : Item) → item_for a rest ≡ Some i → is_linked i ≡ false
-no-link (Plain text) rest i e = ap is_linked (sym (same_Some (Item.Characters text) i e))
-no-link (Whole inline) rest i e = ap is_linked (sym (same_Some (Item.Finished inline) i e))
-no-link (Delimiter run) rest i e = ap is_linked (sym (same_Some (Item.Delimiters run) i e))
-no-link (OpenBracket image) rest i e = ap is_linked (sym (same_Some (Item.Opener image rest) i e))
-no-link CloseBracket rest i e = absurd (cc e)
-
--- an opener ends where it was read to
-opener-ends : (a : Atom) (source : List ℕ) (image : Bool) (behind end : ℕ) → behind ≤ length source → end ≤ length source → item_for a (drop end source) ≡ Some (Item.Opener image (drop behind source)) → behind ≤ end
-opener-ends (Plain text) source image behind end low within e = absurd (cc e)
-opener-ends (Whole inline) source image behind end low within e = absurd (cc e)
-opener-ends (Delimiter run) source image behind end low within e = absurd (cc e)
-opener-ends CloseBracket source image behind end low within e = absurd (cc e)
-opener-ends (OpenBracket other) source image behind end low within e =
-    let same : drop end source ≡ drop behind source = ap left (same_Some (Item.Opener other (drop end source)) (Item.Opener image (drop behind source)) e) in
-    omega (arith, low, within, ap length same, length-drop end source, length-drop behind source)
-  where
-    left : Item → List ℕ
-    left (Item.Opener image rest) = rest
-    left _ = []
-
-bracket-before : (a : Atom) (source : List ℕ) (n : ℕ) (node : Node) (end : ℕ) → IsPart source node → end ≤ length source → item_for a (drop end source) ≡ Some (item_of source node) → AreBefore end (bracket_in n node)
-bracket-before a source n (Piece from to) end known within e = tt
-bracket-before a source n (Characters chars) end known within e = tt
-bracket-before a source n (nodes.Whole standalone) end known within e = tt
-bracket-before a source n (Finished inline depth holds) end known within e = tt
-bracket-before a source n (Run run) end known within e = tt
-bracket-before a source n (Opener image behind) end known within e = (opener-ends a source image behind end known.end.0 within e, tt)
-
-pub atom-read : (rules : Rules) (source : List ℕ) (nodes : List Node) (brackets : List Bracket) (at : ℕ) (node : Node) (end links_end : ℕ) (ends later : MissingEnds) → IsAtom rules source at node end → Knows source later
-    → IsRead source at nodes brackets links_end ends → IsRead source end (nodes ++ node ∷ []) (brackets ++ bracket_in (length nodes) node) links_end later
-unfolding brackets_from
-atom-read rules source nodes brackets at node end links_end ends later is knows r =
-    let low : at ≤ end = omega (arith, is.further) in
-    let a = (atom_in rules source at).atom in
-    let item : item_for a (drop end source) ≡ Some (item_of source node) = ap (item_for a) (sym is.rest) ∙ is.item in
-    let place : length nodes + 0 ≡ length nodes = omega arith in
-    record {
-      short = r.short;
-      parts = parts-append source nodes (node ∷ []) r.parts (is.part, tt);
-      unclosed = brackets-append 0 nodes (node ∷ []) ∙ ap (λ t. brackets_from 0 nodes ++ t) (append-nil (bracket_in (length nodes + 0) node)) ∙ ap (λ n. brackets_from 0 nodes ++ bracket_in n node) place ∙ ap (λ t. t ++ bracket_in (length nodes) node) r.unclosed;
-      before = before-append end brackets (bracket_in (length nodes) node) (before-later at end brackets low r.before) (bracket-before a source (length nodes) node end is.part is.within item);
-      links = links-more source nodes node links_end (no-link a (drop end source) (item_of source node) item) r.links;
+      short = short;
+      utf8 = utf8;
+      boundary = start;
       knows = knows;
-      within = is.within;
-      boundary = is.boundary;
+      open_are = record { parts = sym (parts-none lines source targets [] [] 0); laid = nothing-unmarked lines source 0 start; none = refl };
+      segments_are = tt;
+      runs_are = tt;
+      waiting = refl;
+      chained = chained-none;
+      links_low = omega arith;
+      few_runs = omega arith;
+      few_links = omega arith;
+      high = omega arith;
+      starts = omega arith;
     }
 
--- a list without elements
-pub none-there : {A : Type 0} (xs : List A) → length xs ≡ 0 → xs ≡ []
-none-there [] e = refl
-none-there (x ∷ xs) e = absurd (cc e)
+-- Nothing is read yet.
+pub nothing-read : (rules : Rules) (source : List ℕ) (targets : Targets) (reader : Reader) (lines : Bool) → length source < 2 ^ 32 → IsUtf8 source → view_of reader ≡ fresh_view lines reader.ends → reader.brackets.items ≡ []
+    → reader.runs.openers.looks ≡ 0 → Knows source reader.ends → Reading rules source targets 0 reader
+unfolding items_in
+nothing-read rules source targets reader lines short utf8 fresh brackets looks knows = record {
+  segments = [];
+  read = subst (λ bs. IsRead source targets 0 (view_of reader) (reverse bs) []) (sym brackets) (subst (λ v. IsRead source targets 0 v [] []) (sym fresh) (fresh-read source targets lines reader.ends short utf8 knows));
+  goes = ahead-start rules (defined_in targets) source;
+  pays = nothing-pays rules (defined_in targets) source [] reader.runs.openers.looks refl looks;
+}
 
--- the nodes after a bracket, once they are paired
-
-paired-inside : (source : List ℕ) (nodes paired : List Node) (b : Bracket) (first : ℕ) → first ≡ b.node + 1 → items_of source (drop first paired) ≡ pair_all (items_of source (drop first nodes)) → items_of source (drop (suc b.node) paired) ≡ pair_all (inside_of source nodes b)
-paired-inside source nodes paired b first place pairs = sym (inside-items source paired b first place) ∙ pairs ∙ ap pair_all (inside-items source nodes b first place)
-
-pub paired-depth : (source : List ℕ) (nodes paired : List Node) (b : Bracket) (first : ℕ) → first ≡ b.node + 1 → AreParts source paired → items_of source (drop first paired) ≡ pair_all (items_of source (drop first nodes))
-    → nodes_depth (drop (suc b.node) paired) ≡ inlines_depth (emphasis_of (inside_of source nodes b))
-paired-depth source nodes paired b first place parts pairs =
-    sym (settled-depth source (drop (suc b.node) paired) (parts-drop source (suc b.node) paired parts)) ∙ ap (λ t. inlines_depth (settled t)) (paired-inside source nodes paired b first place pairs)
-
--- what is made of a bracket and of those nodes
-pub makes : (source : List ℕ) (nodes paired more : List Node) (b : Bracket) (dest title : List ℕ) (kind : Kind) (target : Target) (first depth : ℕ) (holds : Bool) (links_end : ℕ) → first ≡ b.node + 1 → AreParts source paired → take first paired ≡ take first nodes
-    → items_of source (drop first paired) ≡ pair_all (items_of source (drop first nodes)) → depth ≡ nodes_depth (drop (suc b.node) paired) → ((content : List Inline) → made_of kind target content ≡ link_of b.image dest title content)
-    → more ≡ take b.node paired ++ (rest_in None ++ Finished (made_by kind target (drop (suc b.node) paired)) (depth + 1) holds ∷ []) → holds ≡ (not b.image || nat_lt b.node links_end)
-    → IsLink source nodes more b dest title (made_by kind target (drop (suc b.node) paired)) depth holds links_end
-makes source nodes paired more b dest title kind target first depth holds links_end place parts front pairs deep kind_is more_is holds_is =
-    let inner = drop (suc b.node) paired in
-    let low : b.node ≤ first = omega (arith, place) in
-    record {
-      nodes_are = more_is ∙ ap (λ t. t ++ Finished (made_by kind target inner) (depth + 1) holds ∷ []) (sym (take-take b.node first paired low) ∙ ap (take b.node) front ∙ take-take b.node first nodes low);
-      inline_is = kind_is (settled (items_of source inner)) ∙ ap (λ t. link_of b.image dest title (settled t)) (paired-inside source nodes paired b first place pairs);
-      depth_is = deep ∙ paired-depth source nodes paired b first place parts pairs;
-      holds_is = holds_is;
-    }
-
--- what a `]` closes, once it is known what follows it
-pub closes : (rules : Rules) (defined : Defined) (source : List ℕ) (nodes : List Node) (others : List Bracket) (b : Bracket) (links_end at : ℕ) (ends : MissingEnds) (found : Option LinkEnd) → IsRead source at nodes (others ++ b ∷ []) links_end ends
-    → Stands source at 93 → ends_of source found ≡ end_for rules defined source b links_end at → closed_at rules defined source nodes at ≡ closed_or source nodes b (drop (at + 1) source) (ends_of source found)
-closes rules defined source nodes others b links_end at ends found r stands is =
-    closes-opener rules defined source nodes others b links_end at (split-last 0 nodes others b r.unclosed) r.links (before-split at others (b ∷ []) r.before).1.0 stands.within
-    ∙ ap (closed_or source nodes b (drop (at + 1) source)) (sym is)
-
--- no bracket is there, and none is left
-pub none-left : (old new : List Bracket) (n : ℕ) → length old ≡ 0 → new ≡ take n old → (old ≡ []) × (new ≡ [])
-none-left old new n size is = let none = none-there old size in (none, is ∙ ap (take n) none ∙ take-none n)
+-- starts among texts
+pub texts-start : (runs : List PairedRun) (pairs : List Pair) (text : List ℕ) → starts_in (events_of runs pairs (texts text)) ≡ 0
+unfolding events_of
+texts-start runs pairs [] = refl
+texts-start runs pairs (b ∷ bs) = go (b == 10) ∙ texts-start runs pairs bs
   where
-    take-none : (n : ℕ) → take {A = Bracket} n [] ≡ []
-    take-none zero = refl
-    take-none (suc n) = refl
+    go : (feed : Bool) → starts_in ((if feed then Whole inline.Soft else Text (b ∷ [])) ∷ events_of runs pairs (texts bs)) ≡ starts_in (events_of runs pairs (texts bs))
+    go true = refl
+    go false = refl
 
--- the same of the same
-pub same-read : (source : List ℕ) (at : ℕ) (nodes more : List Node) (brackets later : List Bracket) (links_end links : ℕ) (ends known : MissingEnds) → more ≡ nodes → later ≡ brackets → links ≡ links_end → known ≡ ends
-    → IsRead source at nodes brackets links_end ends → IsRead source at more later links known
-same-read source at nodes more brackets later links_end links ends known n b l k r =
-    subst (λ t. IsRead source at t later links known) (sym n) (subst (λ t. IsRead source at nodes t links known) (sym b) (subst (λ t. IsRead source at nodes brackets t known) (sym l)
-    (subst (λ t. IsRead source at nodes brackets links_end t) (sym k) r)))
+pub starts-more : (runs : List PairedRun) (pairs : List Pair) (xs ys : List Segment)
+    → starts_in (events_of runs pairs (all_parts (xs ++ ys))) ≡ starts_in (events_of runs pairs (all_parts xs)) + starts_in (events_of runs pairs (all_parts ys))
+starts-more runs pairs xs ys =
+    ap (λ t. starts_in (events_of runs pairs t)) (all_parts-append xs ys) ∙ ap starts_in (events-append runs pairs (all_parts xs) (all_parts ys)) ∙ starts-append (events_of runs pairs (all_parts xs)) (events_of runs pairs (all_parts ys))
+
+-- Marks more, which stand for an item that is no run, no bracket and no link.
+pub record AreMore (source : List ℕ) (targets : Targets) (v : View) (at end : ℕ) (marks : List Mark) (parts : List Part) (item : Item) : Type 0 where
+  pub further : at < end
+  pub boundary : IsCharBoundary source end
+  pub laid : AreLaid v.lines source targets v.runs v.links at end marks
+  pub parts_are : parts ≡ parts_between source targets v.links at end marks
+  pub known : AreKnown parts
+  pub other : is_run item ≡ false
+  pub closed : is_opener item ≡ false
+  pub unlinked : is_linked item ≡ false
+  pub stands : StandFor (events_of (runs_in v.runs) (pairs_in v.pairs) parts) (item ∷ [])
+  pub no_start : starts_in (events_of (runs_in v.runs) (pairs_in v.pairs) parts) ≡ 0
+
+abbrev pub more_view : View → List Mark → MissingEnds → View
+more_view v marks ends = record { lines = v.lines; marks = v.marks ++ marks; runs = v.runs; waiting = v.waiting; pairs = v.pairs; links = v.links; links_end = v.links_end; ends = ends }
+
+module _ (source : List ℕ) (targets : Targets) (v : View) (bs : List Bracket) (segments : List Segment) (at end : ℕ) (marks : List Mark) (parts : List Part) (item : Item) (ends : MissingEnds)
+    (m : AreMore source targets v at end marks parts item) (knows : Knows source ends) (r : IsRead source targets at v bs segments) where
+  abbrev leaf : MarkedLeaf
+  leaf = leaf_of source targets v
+
+  abbrev runs : List PairedRun
+  runs = runs_in v.runs
+
+  abbrev pairs : List Pair
+  pairs = pairs_in v.pairs
+
+  abbrev more : List Segment
+  more = Made parts item (number_after 0 segments) ∷ []
+
+  more-closed : AreClosed leaf at end more marks
+  unfolding all_parts items_in has_opener
+  more-closed = record { parts = append-nil parts ∙ m.parts_are; laid = m.laid; none = ap (λ b. b || false) m.closed }
+
+  more-open : AreOpen leaf bs (segments ++ more) (v.marks ++ marks) end false
+  unfolding items_in holds_link
+  more-open = open-more leaf bs segments more v.marks marks at end false (subst (λ b. AreOpen leaf bs segments v.marks at ((b || false) || false)) (sym m.unlinked) r.open_are) more-closed
+
+  more-starts : starts_in (events_of runs pairs (all_parts (segments ++ more))) ≡ starts_in (events_of runs pairs (all_parts segments))
+  unfolding all_parts
+  more-starts =
+      let none : starts_in (events_of runs pairs (parts ++ [])) ≡ 0 = ap (λ t. starts_in (events_of runs pairs t)) (append-nil parts) ∙ m.no_start in
+      omega (arith, starts-more runs pairs segments more, none)
+
+  pub more-read : IsRead source targets end (more_view v marks ends) bs (segments ++ more)
+  unfolding numbers_in number_after
+  more-read = record {
+    short = r.short;
+    utf8 = r.utf8;
+    boundary = m.boundary;
+    knows = knows;
+    open_are = more-open;
+    segments_are = segments-append 0 runs pairs segments more r.segments_are (known-made runs pairs (number_after 0 segments) parts item m.known m.other m.stands, tt);
+    runs_are = runs-append segments more r.runs_are tt;
+    waiting = r.waiting ∙ sym (append-nil (numbers_in segments)) ∙ sym (numbers-append segments more);
+    chained = r.chained;
+    links_low = omega (arith, r.links_low, length-append v.marks marks);
+    few_runs = omega (arith, r.few_runs, m.further);
+    few_links = omega (arith, r.few_links, m.further);
+    high = subst (λ n. n ≤ length v.runs) (sym (behind-append 0 segments more)) r.high;
+    starts = omega (arith, r.starts, more-starts);
+  }
+
+-- Text more, of which each byte stays text.
+pub record IsText (source : List ℕ) (at end : ℕ) : Type 0 where
+  pub further : at < end
+  pub boundary : IsCharBoundary source end
+  pub stays : list_all (stays_text true) (slice_range source at end) ≡ true
+
+abbrev pub text_segment : List ℕ → List Segment → (at end : ℕ) → Segment
+text_segment source segments at end = Made (texts (slice_range source at end)) (Characters (slice_range source at end)) (number_after 0 segments)
+
+text-more : (source : List ℕ) (targets : Targets) (v : View) (at end : ℕ) → IsCharBoundary source at → IsText source at end → AreMore source targets v at end [] (texts (slice_range source at end)) (Characters (slice_range source at end))
+unfolding parts_between
+text-more source targets v at end start is =
+    let low : at ≤ end = omega (arith, is.further) in
+    let text = slice_range source at end in
+    record {
+      further = is.further;
+      boundary = is.boundary;
+      laid = record { between = (low, start, is.boundary); text = stays-any v.lines text is.stays };
+      parts_are = refl;
+      known = texts-known text;
+      other = refl;
+      closed = refl;
+      unlinked = refl;
+      stands = texts-stand (runs_in v.runs) (pairs_in v.pairs) text is.stays;
+      no_start = texts-start (runs_in v.runs) (pairs_in v.pairs) text;
+    }
+
+pub text-read : (source : List ℕ) (targets : Targets) (v : View) (bs : List Bracket) (segments : List Segment) (at end : ℕ) → IsText source at end → IsRead source targets at v bs segments
+    → IsRead source targets end v bs (segments ++ text_segment source segments at end ∷ [])
+text-read source targets v bs segments at end is r =
+    let text = slice_range source at end in
+    subst (λ ms. IsRead source targets end (record v { marks = ms }) bs (segments ++ text_segment source segments at end ∷ [])) (append-nil v.marks)
+    (more-read source targets v bs segments at end [] (texts text) (Characters text) v.ends (text-more source targets v at end r.boundary is) r.knows r)
+
+-- the items with text more
+pub text-items : (source : List ℕ) (segments : List Segment) (at end : ℕ) → items_in (segments ++ text_segment source segments at end ∷ []) ≡ items_in segments ++ Characters (slice_range source at end) ∷ []
+unfolding items_in
+text-items source segments at end = items-append segments (text_segment source segments at end ∷ [])
+
+-- Text before anything.
+pub text-goes : (rules : Rules) (source : List ℕ) (targets : Targets) (at end : ℕ) (reader : Reader) → IsTextTo source at end → Reading rules source targets at reader → Reading rules source targets end reader
+text-goes rules source targets at end reader is g = go (nat_lt at end) refl
+  where
+    defined : Defined
+    defined = defined_in targets
+
+    looks : ℕ
+    looks = reader.runs.openers.looks
+
+    by : (some : Bool) → nat_lt at end ≡ some → (more : List Segment) → items_in more ≡ items_in g.segments ++ (if some then Characters (slice_range source at end) ∷ [] else []) → IsReadTo source targets end reader more → Reading rules source targets end reader
+    by some e more same read =
+        let all : items_in more ≡ items_in g.segments ++ text_items source at end = same ∙ ap (λ v. items_in g.segments ++ (if v then Characters (slice_range source at end) ∷ [] else [])) (sym e) in
+        record {
+          segments = more;
+          read = read;
+          goes = ap (λ t. ahead rules defined source t end) all ∙ ahead-text rules defined source (items_in g.segments) at end is ∙ g.goes;
+          pays = subst (λ t. Pays rules defined source t end looks) (sym all) (text-pays rules defined source (items_in g.segments) at end looks is g.pays);
+        }
+
+    go : (some : Bool) → nat_lt at end ≡ some → Reading rules source targets end reader
+    go true e =
+        let further : at < end = grind (arith, nat_tests, e) in
+        by true e (g.segments ++ text_segment source g.segments at end ∷ []) (text-items source g.segments at end)
+        (text-read source targets (view_of reader) (reverse reader.brackets.items) g.segments at end (record { further = further; boundary = is.boundary; stays = is.stays }) g.read)
+    go false e =
+        let none : end ≤ at = grind (arith, nat_tests, e) in
+        let same : at ≡ end = omega (arith, none, is.low) in
+        subst (λ n. Reading rules source targets n reader) same g
+
+-- An atom as marks that stand for its item, unless it is a run or a bracket.
+
+-- between a place and itself there is no text
+pub none-laid : (lines : Bool) (source : List ℕ) (at : ℕ) → IsCharBoundary source at → IsUnmarked lines source at at
+none-laid lines source at boundary = nothing-unmarked lines source at boundary
+
+stays-apart : (b : ℕ) → is_escaped b ≡ false → (b == 10) ≡ false → stays_text true b ≡ true
+stays-apart b e f = ap (λ v. not v && not (true && b == 10)) e ∙ ap not f
+
+module _ (source : List ℕ) (targets : Targets) (v : View) (at end : ℕ) (start : IsCharBoundary source at) (further : at < end) (boundary : IsCharBoundary source end) where
+  abbrev runs_v : List PairedRun
+  runs_v = runs_in v.runs
+
+  abbrev pairs_v : List Pair
+  pairs_v = pairs_in v.pairs
+
+  abbrev low : at ≤ end
+  low = omega (arith, further)
+
+  -- one mark of a known event
+  one-more : (kind : Kind) (e : Event) (item : Item) → part_of_kind source targets v.links at end kind ≡ Known (e ∷ []) → IsOfKind source targets v.runs v.links at end kind → IsNoRun e → starts_in (e ∷ []) ≡ 0 → StandFor (e ∷ []) (item ∷ [])
+      → is_run item ≡ false → is_opener item ≡ false → is_linked item ≡ false → AreMore source targets v at end (mark_at at end kind ∷ []) (Known (e ∷ []) ∷ []) item
+  unfolding events_of
+  one-more kind e item part is none starts stands other closed unlinked = record {
+    further = further;
+    boundary = boundary;
+    laid = (none-laid v.lines source at start, (low, start, boundary), is, none-laid v.lines source end boundary);
+    parts_are = ap (λ p. p ∷ []) (sym part) ∙ sym (parts-one v.lines source targets v.runs v.links (mark_at at end kind));
+    known = ((none, tt), tt);
+    other = other;
+    closed = closed;
+    unlinked = unlinked;
+    stands = stands;
+    no_start = starts;
+  }
+
+  -- an inline of its own
+  whole-part : (kind : Kind) → IsInline source at end kind → part_of_kind source targets v.links at end kind ≡ Known (Whole (inline_in source at end kind) ∷ [])
+  whole-part (kinds.Code from to) is = refl
+  whole-part kinds.Html is = refl
+  whole-part (kinds.Autolink is_address) is = refl
+  whole-part kinds.Soft is = refl
+  whole-part kinds.Hard is = refl
+  whole-part kinds.Plain is = absurd is
+  whole-part kinds.Escaped is = absurd is
+  whole-part kinds.Nothing is = absurd is
+  whole-part (kinds.Character c) is = absurd is
+  whole-part (kinds.Run number) is = absurd is
+  whole-part (kinds.Start number) is = absurd is
+  whole-part (kinds.End number) is = absurd is
+
+  whole-kind : (kind : Kind) → IsInline source at end kind → IsOfKind source targets v.runs v.links at end kind
+  whole-kind (kinds.Code from to) is = is
+  whole-kind kinds.Html is = tt
+  whole-kind (kinds.Autolink is_address) is = is
+  whole-kind kinds.Soft is = tt
+  whole-kind kinds.Hard is = tt
+  whole-kind kinds.Plain is = absurd is
+  whole-kind kinds.Escaped is = absurd is
+  whole-kind kinds.Nothing is = absurd is
+  whole-kind (kinds.Character c) is = absurd is
+  whole-kind (kinds.Run number) is = absurd is
+  whole-kind (kinds.Start number) is = absurd is
+  whole-kind (kinds.End number) is = absurd is
+
+  pub whole-more : (kind : Kind) → IsInline source at end kind → AreMore source targets v at end (mark_at at end kind ∷ []) (Known (Whole (inline_in source at end kind) ∷ []) ∷ []) (Finished (inline_in source at end kind))
+  whole-more kind is =
+      one-more kind (Whole (inline_in source at end kind)) (Finished (inline_in source at end kind)) (whole-part kind is) (whole-kind kind is) tt refl
+      (inline-stands (inline_in source at end kind) (inline-shallow source at end kind)) refl refl refl
+
+  -- a character that HTML escapes
+  pub escaped-more : IsThere source at end atoms.Escaped → AreMore source targets v at end (mark_at at end kinds.Escaped ∷ []) (Known (Text (slice_range source at end) ∷ []) ∷ []) (Characters (slice_range source at end))
+  escaped-more is = one-more kinds.Escaped (Text (slice_range source at end)) (Characters (slice_range source at end)) refl is tt refl (text-stands (slice_range source at end)) refl refl refl
+
+  -- a line feed
+  pub feed-more : (lines : Bool) → v.lines ≡ lines → IsThere source at end atoms.LineFeed
+      → AreMore source targets v at end (if lines then mark_at at end kinds.Soft ∷ [] else []) (Known (Whole inline.Soft ∷ []) ∷ []) (Finished inline.Soft)
+  unfolding events_of parts_between
+  feed-more true e is = whole-more kinds.Soft tt
+  feed-more false e is = record {
+    further = further;
+    boundary = boundary;
+    laid = record { between = (low, start, boundary); text = ap (λ l. list_all (stays_text l) (slice_range source at end)) e ∙ ap (list_all (stays_text false)) is.1 };
+    parts_are = sym (ap texts is.1);
+    known = ((tt, tt), tt);
+    other = refl;
+    closed = refl;
+    unlinked = refl;
+    stands = inline-stands inline.Soft (inline-shallow source at end kinds.Soft);
+    no_start = refl;
+  }
+
+  -- the characters of a reference
+  pub reference-more : (chars : Chars) (second : Option ℕ) → chars.second ≡ second
+      → AreMore source targets v at end (mark_at at end (kinds.Character chars.first) ∷ (elim second as (λ _. List Mark) [ None ↦ [] | Some c ↦ mark_at end end (kinds.Character c) ∷ [] ]))
+      (Known (Text (encode_utf8 chars.first) ∷ []) ∷ (elim second as (λ _. List Part) [ None ↦ [] | Some c ↦ Known (Text (encode_utf8 c) ∷ []) ∷ [] ])) (Characters (encode_utf8_all (chars_of chars)))
+  unfolding events_of parts_between
+  reference-more chars None e =
+      let first = encode_utf8 chars.first in
+      let same : concat (first ∷ []) ≡ encode_utf8_all (chars_of chars) = ap (λ o. encode_utf8_all (chars.first ∷ elim o as (λ _. List ℕ) [ None ↦ [] | Some second ↦ second ∷ [] ])) (sym e) in
+      record {
+        further = further;
+        boundary = boundary;
+        laid = (none-laid v.lines source at start, (low, start, boundary), tt, none-laid v.lines source end boundary);
+        parts_are = sym (parts-one v.lines source targets v.runs v.links (mark_at at end (kinds.Character chars.first)));
+        known = ((tt, tt), tt);
+        other = refl;
+        closed = refl;
+        unlinked = refl;
+        stands = subst (λ t. StandFor (Text first ∷ []) (Characters t ∷ [])) same (cut-stands (first ∷ []));
+        no_start = refl;
+      }
+  reference-more chars (Some c) e =
+      let first = encode_utf8 chars.first in
+      let second = encode_utf8 c in
+      let same : concat (first ∷ second ∷ []) ≡ encode_utf8_all (chars_of chars) = ap (λ o. encode_utf8_all (chars.first ∷ elim o as (λ _. List ℕ) [ None ↦ [] | Some second ↦ second ∷ [] ])) (sym e) in
+      let whole : end ≤ end = omega arith in
+      record {
+        further = further;
+        boundary = boundary;
+        laid = (none-laid v.lines source at start, (low, start, boundary), tt, (none-laid v.lines source end boundary, (whole, boundary, boundary), tt, none-laid v.lines source end boundary));
+        parts_are = sym (ap (λ t. texts t ++ Known (Text first ∷ []) ∷ (texts (slice_range source end end) ++ Known (Text second ∷ []) ∷ texts (slice_range source end end))) (slice-none source at)
+            ∙ ap (λ t. Known (Text first ∷ []) ∷ (texts t ++ Known (Text second ∷ []) ∷ texts t)) (slice-none source end));
+        known = ((tt, tt), ((tt, tt), tt));
+        other = refl;
+        closed = refl;
+        unlinked = refl;
+        stands = subst (λ t. StandFor (Text first ∷ Text second ∷ []) (Characters t ∷ [])) same (cut-stands (first ∷ second ∷ []));
+        no_start = refl;
+      }
+
+  -- a backslash and what it escapes
+  abbrev escape_marks : Bool → List Mark
+  escape_marks escaped = mark_at at (at + 1) kinds.Nothing ∷ (if escaped then mark_at (at + 1) end kinds.Escaped ∷ [] else [])
+
+  abbrev escape_parts : Bool → List Part
+  escape_parts escaped = Known [] ∷ (if escaped then Known (Text (slice_range source (at + 1) end) ∷ []) ∷ [] else texts (slice_range source (at + 1) end))
+
+  pub escape-more : (escaped : Bool) → is_escaped (slice_index source (at + 1)) ≡ escaped → IsThere source at end atoms.Escape → AreMore source targets v at end (escape_marks escaped) (escape_parts escaped) (Characters (slice_range source (at + 1) end))
+  unfolding events_of parts_between
+  escape-more true e is =
+      let b = is.0 in
+      let next = is.2 in
+      let text = slice_range source (at + 1) end in
+      let first : at ≤ at + 1 = omega arith in
+      let second : at + 1 ≤ end = omega (arith, is.1) in
+      record {
+        further = further;
+        boundary = boundary;
+        laid = (none-laid v.lines source at start, (first, start, next), tt, (none-laid v.lines source (at + 1) next, (second, next, boundary), (b, ap is_escaped is.4 ∙ e, is.3), none-laid v.lines source end boundary));
+        parts_are = sym (ap (λ t. texts t ++ Known [] ∷ (texts (slice_range source (at + 1) (at + 1)) ++ Known (Text text ∷ []) ∷ texts (slice_range source end end))) (slice-none source at)
+            ∙ ap (λ t. Known [] ∷ (texts t ++ Known (Text text ∷ []) ∷ texts (slice_range source end end))) (slice-none source (at + 1)) ∙ ap (λ t. Known [] ∷ Known (Text text ∷ []) ∷ texts t) (slice-none source end));
+        known = (tt, ((tt, tt), tt));
+        other = refl;
+        closed = refl;
+        unlinked = refl;
+        stands = text-stands text;
+        no_start = refl;
+      }
+  escape-more false e is =
+      let b = is.0 in
+      let next = is.2 in
+      let text = slice_range source (at + 1) end in
+      let first : at ≤ at + 1 = omega arith in
+      let second : at + 1 ≤ end = omega (arith, is.1) in
+      let stays : list_all (stays_text true) text ≡ true = ap (list_all (stays_text true)) is.3 ∙ ap (λ v. v && true) (stays-apart b (ap is_escaped is.4 ∙ e) is.5) in
+      record {
+        further = further;
+        boundary = boundary;
+        laid = (none-laid v.lines source at start, (first, start, next), tt, record { between = (second, next, boundary); text = stays-any v.lines text stays });
+        parts_are = sym (ap (λ t. texts t ++ Known [] ∷ texts text) (slice-none source at));
+        known = (tt, texts-known text);
+        other = refl;
+        closed = refl;
+        unlinked = refl;
+        stands = texts-stand runs_v pairs_v text stays;
+        no_start = texts-start runs_v pairs_v text;
+      }
+
+-- A run more, which waits.
+abbrev pub run_view : View → (at end : ℕ) → DelimiterRun → MissingEnds → View
+run_view v at end run ends = record {
+  lines = v.lines;
+  marks = v.marks ++ mark_at at end (kinds.Run (length v.runs)) ∷ [];
+  runs = v.runs ++ record { run = run; opened = 0; from = 0; to = 0 } ∷ [];
+  waiting = v.waiting ++ length v.runs ∷ [];
+  pairs = v.pairs;
+  links = v.links;
+  links_end = v.links_end;
+  ends = ends;
+}
+
+marker-marked : (run : DelimiterRun) → IsMarked (run_of run)
+marker-marked run = go run.marker
+  where
+    go : (m : Marker) → (byte_of m ≡ 42) ⊎ (byte_of m ≡ 95) ⊎ (byte_of m ≡ 126)
+    go Marker.Star = inl refl
+    go Marker.Underscore = inr (inl refl)
+    go Marker.Tilde = inr (inr refl)
+
+module _ (source : List ℕ) (targets : Targets) (v : View) (bs : List Bracket) (segments : List Segment) (at end : ℕ) (run : DelimiterRun) (ends : MissingEnds) (start : IsCharBoundary source at) (further : at < end)
+    (boundary : IsCharBoundary source end) (there : IsThere source at end (atoms.Run run)) (some : 1 ≤ run.left) (knows : Knows source ends) (r : IsRead source targets at v bs segments) where
+  abbrev with_run : View
+  with_run = run_view v at end run ends
+
+  abbrev held_run : HeldRun
+  held_run = record { run = run; opened = 0; from = 0; to = 0 }
+
+  abbrev one_run : List Segment
+  one_run = Waiting (length v.runs) (run_of run) ∷ []
+
+  abbrev run_leaf : MarkedLeaf
+  run_leaf = leaf_of source targets with_run
+
+  runs-are : runs_in with_run.runs ≡ runs_in v.runs ++ fresh (run_of run) ∷ []
+  runs-are = map-append paired_run v.runs (held_run ∷ [])
+
+  run-closed : AreClosed run_leaf at end one_run (mark_at at end (kinds.Run (length v.runs)) ∷ [])
+  unfolding all_parts items_in has_opener
+  run-closed =
+      let low : at ≤ end = omega (arith, further) in
+      let is = get_or_push v.runs held_run no_run (length v.runs) refl in
+      let within : length v.runs < length with_run.runs = omega (arith, length-append v.runs (held_run ∷ [])) in
+      record {
+        parts = sym (parts-one v.lines source targets with_run.runs v.links (mark_at at end (kinds.Run (length v.runs))));
+        laid = (none-laid v.lines source at start, (low, start, boundary), (within, there ∙ ap (λ (x : HeldRun). replicate x.run.whole (byte_of x.run.marker)) (sym is)), none-laid v.lines source end boundary);
+        none = refl;
+      }
+
+  run-later : AreOpen run_leaf bs segments v.marks at false
+  run-later =
+      subst (λ ls. AreOpen (record run_leaf { links = ls }) bs segments v.marks at false) (append-nil v.links)
+      (open-later (leaf_of source targets v) with_run.runs [] bs segments v.marks at false (later-more v.runs (held_run ∷ [])) r.open_are)
+
+  run-open : AreOpen run_leaf bs (segments ++ one_run) with_run.marks end false
+  unfolding items_in holds_link
+  run-open = open-more run_leaf bs segments one_run v.marks (mark_at at end (kinds.Run (length v.runs)) ∷ []) at end false run-later run-closed
+
+  run-starts : starts_in (events_for with_run (segments ++ one_run)) ≡ starts_in (events_for v segments)
+  unfolding all_parts events_of
+  run-starts =
+      let runs = runs_in with_run.runs in
+      let pairs = pairs_in v.pairs in
+      let more = fresh (run_of run) ∷ [] in
+      let old : events_of runs pairs (all_parts segments) ≡ events_for v segments =
+      ap (λ t. events_of t pairs (all_parts segments)) runs-are ∙ events-more (runs_in v.runs) more pairs (all_parts segments) (segments-parts (runs_in v.runs) pairs 0 segments r.segments_are) in
+      let is : get_or runs (length v.runs) no_paired_run ≡ fresh (run_of run) =
+      ap (λ t. get_or t (length v.runs) no_paired_run) runs-are ∙ get_or_push (runs_in v.runs) (fresh (run_of run)) no_paired_run (length v.runs) (length-map v.runs paired_run) in
+      let none : starts_in (events_of runs pairs (Numbered (length v.runs) ∷ [])) ≡ 0 =
+      ap (λ x. starts_in (run_events pairs (length v.runs) x ++ [])) is ∙ ap (λ t. starts_in (Rest (length v.runs) (run_of run) ∷ t ++ [])) (chain-zero (reverse pairs)) in
+      omega (arith, starts-more runs pairs segments one_run, ap starts_in old, none)
+
+  pub run-read : IsRead source targets end with_run bs (segments ++ one_run)
+  unfolding numbers_in number_after
+  run-read = record {
+    short = r.short;
+    utf8 = r.utf8;
+    boundary = boundary;
+    knows = knows;
+    open_are = run-open;
+    segments_are = subst (λ n. AreSegments (runs_in with_run.runs) (pairs_in v.pairs) 0 (segments ++ Waiting n (run_of run) ∷ [])) (length-map v.runs paired_run)
+        (subst (λ t. AreSegments t (pairs_in v.pairs) 0 (segments ++ Waiting (length (runs_in v.runs)) (run_of run) ∷ [])) (sym runs-are)
+        (segments-push (runs_in v.runs) (pairs_in v.pairs) (run_of run) segments (omega (arith, r.high, length-map v.runs paired_run)) r.segments_are));
+    runs_are = runs-append segments one_run r.runs_are (marker-marked run, some, tt);
+    waiting = ap (λ t. t ++ length v.runs ∷ []) r.waiting ∙ sym (numbers-append segments one_run);
+    chained = subst (λ t. AreChained t (pairs_in v.pairs)) (sym runs-are) (chained-push (runs_in v.runs) (pairs_in v.pairs) (run_of run) r.chained);
+    links_low = omega (arith, r.links_low, length-append v.marks (mark_at at end (kinds.Run (length v.runs)) ∷ []));
+    few_runs = omega (arith, r.few_runs, further, length-append v.runs (held_run ∷ []));
+    few_links = omega (arith, r.few_links, further);
+    high = omega (arith, behind-append 0 segments one_run, length-append v.runs (held_run ∷ []));
+    starts = omega (arith, r.starts, run-starts);
+  }
+
+-- A bracket more, which is open.
+abbrev pub bracket_view : View → (at end : ℕ) → MissingEnds → View
+bracket_view v at end ends = more_view v (mark_at at end kinds.Plain ∷ []) ends
+
+module _ (source : List ℕ) (targets : Targets) (v : View) (bs : List Bracket) (segments : List Segment) (at end : ℕ) (image : Bool) (ends : MissingEnds) (start : IsCharBoundary source at) (further : at < end)
+    (boundary : IsCharBoundary source end) (there : IsThere source at end (atoms.Opener image)) (knows : Knows source ends) (r : IsRead source targets at v bs segments) where
+  abbrev new_bracket : Bracket
+  new_bracket = record { mark = length v.marks; image = image; end = end; waiting = length v.waiting }
+
+  abbrev one_bracket : List Segment
+  one_bracket = opened source new_bracket (number_after 0 segments) ∷ []
+
+  bracket-starts : starts_in (events_for v (segments ++ one_bracket)) ≡ starts_in (events_for v segments)
+  unfolding all_parts events_of
+  bracket-starts =
+      let none : starts_in (events_of (runs_in v.runs) (pairs_in v.pairs) (all_parts one_bracket)) ≡ 0 = refl in
+      omega (arith, starts-more (runs_in v.runs) (pairs_in v.pairs) segments one_bracket, none)
+
+  pub bracket-read : IsRead source targets end (bracket_view v at end ends) (new_bracket ∷ bs) (segments ++ one_bracket)
+  unfolding numbers_in number_after events_of
+  bracket-read = record {
+    short = r.short;
+    utf8 = r.utf8;
+    boundary = boundary;
+    knows = knows;
+    open_are = open-opened (leaf_of source targets v) bs new_bracket (number_after 0 segments) segments v.marks at r.open_are (record { place = there.0; front = there.1; start = start; end = boundary }) refl (ap length r.waiting) r.links_low
+        (none-laid v.lines source end boundary);
+    segments_are = segments-append 0 (runs_in v.runs) (pairs_in v.pairs) segments one_bracket r.segments_are
+        (known-made (runs_in v.runs) (pairs_in v.pairs) (number_after 0 segments) (Known (Text (bracket_text image) ∷ []) ∷ []) (Opener image (drop end source)) ((tt, tt), tt) refl (opener-stands image (drop end source)), tt);
+    runs_are = runs-append segments one_bracket r.runs_are tt;
+    waiting = r.waiting ∙ sym (append-nil (numbers_in segments)) ∙ sym (numbers-append segments one_bracket);
+    chained = r.chained;
+    links_low = omega (arith, r.links_low, length-append v.marks (mark_at at end kinds.Plain ∷ []));
+    few_runs = omega (arith, r.few_runs, further);
+    few_links = omega (arith, r.few_links, further);
+    high = subst (λ n. n ≤ length v.runs) (sym (behind-append 0 segments one_bracket)) r.high;
+    starts = omega (arith, r.starts, bracket-starts);
+  }
+
+-- What an atom puts is read.
+abbrev pub put_view : View → List ℕ → (at end : ℕ) → Atom → MissingEnds → View
+put_view v source at end atom ends = record {
+  lines = v.lines;
+  marks = v.marks ++ marks_for v.lines source at end (length v.runs) atom;
+  runs = v.runs ++ runs_for atom;
+  waiting = v.waiting ++ numbers_for (length v.runs) atom;
+  pairs = v.pairs;
+  links = v.links;
+  links_end = v.links_end;
+  ends = ends;
+}
+
+pub record PutRead (source : List ℕ) (targets : Targets) (at end : ℕ) (v : View) (bs : List Bracket) (segments : List Segment) (atom : Atom) (ends : MissingEnds) : Type 0 where
+  pub more : List Segment
+  pub items : items_in (segments ++ more) ≡ items_in segments ++ item_in source at end atom ∷ []
+  pub read : IsRead source targets end (put_view v source at end atom ends) (reverse (brackets_for (length v.marks) (length v.waiting) end atom) ++ bs) (segments ++ more)
+
+module _ (source : List ℕ) (targets : Targets) (v : View) (bs : List Bracket) (segments : List Segment) (at end : ℕ) (ends : MissingEnds) (further : at < end) (boundary : IsCharBoundary source end) (knows : Knows source ends)
+    (r : IsRead source targets at v bs segments) where
+  -- with no run and no bracket
+  simply : (atom : Atom) (marks : List Mark) (parts : List Part) → runs_for atom ≡ [] → numbers_for (length v.runs) atom ≡ [] → brackets_for (length v.marks) (length v.waiting) end atom ≡ [] → marks_for v.lines source at end (length v.runs) atom ≡ marks
+      → AreMore source targets v at end marks parts (item_in source at end atom) → PutRead source targets at end v bs segments atom ends
+  unfolding items_in
+  simply atom marks parts runs numbers brackets same m =
+      let more = Made parts (item_in source at end atom) (number_after 0 segments) ∷ [] in
+      let view : more_view v marks ends ≡ put_view v source at end atom ends =
+      same-view (more_view v marks ends) (put_view v source at end atom ends) refl (ap (λ t. v.marks ++ t) (sym same)) (sym (append-nil v.runs) ∙ ap (λ t. v.runs ++ t) (sym runs)) (sym (append-nil v.waiting) ∙ ap (λ t. v.waiting ++ t) (sym numbers)) refl refl refl refl in
+      record {
+        more = more;
+        items = items-append segments more;
+        read = subst (λ b. IsRead source targets end (put_view v source at end atom ends) (reverse b ++ bs) (segments ++ more)) (sym brackets)
+            (subst (λ w. IsRead source targets end w bs (segments ++ more)) view (more-read source targets v bs segments at end marks parts (item_in source at end atom) ends m knows r));
+      }
+
+  pub put-read : (rules : Rules) (atom : Atom) → IsAtom rules source at (item_in source at end atom) end → IsThere source at end atom → PutRead source targets at end v bs segments atom ends
+  unfolding items_in
+  put-read rules atoms.Text is there = simply atoms.Text [] (texts (slice_range source at end)) refl refl refl refl (text-more source targets v at end r.boundary (record { further = further; boundary = boundary; stays = there }))
+  put-read rules atoms.Escaped is there =
+      simply atoms.Escaped (mark_at at end kinds.Escaped ∷ []) (Known (Text (slice_range source at end) ∷ []) ∷ []) refl refl refl refl (escaped-more source targets v at end r.boundary further boundary there)
+  put-read rules atoms.Escape is there =
+      let escaped = is_escaped (slice_index source (at + 1)) in
+      simply atoms.Escape (escape_marks source targets v at end r.boundary further boundary escaped) (escape_parts source targets v at end r.boundary further boundary escaped) refl refl refl refl
+      (escape-more source targets v at end r.boundary further boundary escaped refl there)
+  put-read rules (atoms.Reference chars) is there =
+      simply (atoms.Reference chars) (marks_for v.lines source at end (length v.runs) (atoms.Reference chars))
+      (Known (Text (encode_utf8 chars.first) ∷ []) ∷ (elim chars.second as (λ _. List Part) [ None ↦ [] | Some c ↦ Known (Text (encode_utf8 c) ∷ []) ∷ [] ])) refl refl refl refl
+      (reference-more source targets v at end r.boundary further boundary chars chars.second refl)
+  put-read rules (atoms.Whole kind) is there =
+      simply (atoms.Whole kind) (mark_at at end kind ∷ []) (Known (Whole (inline_in source at end kind) ∷ []) ∷ []) refl refl refl refl (whole-more source targets v at end r.boundary further boundary kind there)
+  put-read rules atoms.LineFeed is there =
+      simply atoms.LineFeed (if v.lines then mark_at at end kinds.Soft ∷ [] else []) (Known (Whole inline.Soft ∷ []) ∷ []) refl refl refl refl (feed-more source targets v at end r.boundary further boundary v.lines refl there)
+  put-read rules (atoms.Opener image) is there =
+      let more = one_bracket source targets v bs segments at end image ends r.boundary further boundary there knows r in
+      record {
+        more = more;
+        items = items-append segments more;
+        read = subst (λ w. IsRead source targets end w (record { mark = length v.marks; image = image; end = end; waiting = length v.waiting } ∷ bs) (segments ++ more))
+            (same-view (bracket_view v at end ends) (put_view v source at end (atoms.Opener image) ends) refl refl (sym (append-nil v.runs)) (sym (append-nil v.waiting)) refl refl refl refl)
+            (bracket-read source targets v bs segments at end image ends r.boundary further boundary there knows r);
+      }
+  put-read rules (atoms.Run run) is there =
+      let more = one_run source targets v bs segments at end run ends r.boundary further boundary there (omega (arith, is.fresh.1, is.fresh.2)) knows r in
+      record {
+        more = more;
+        items = items-append segments more;
+        read = run-read source targets v bs segments at end run ends r.boundary further boundary there (omega (arith, is.fresh.1, is.fresh.2)) knows r;
+      }
+
+-- An atom at a place, read on from there.
+pub put-goes : (rules : Rules) (source : List ℕ) (targets : Targets) (at end : ℕ) (old new : Reader) → at < length source → Puts rules source at end old new → Reading rules source targets at old → Reading rules source targets end new
+put-goes rules source targets at end old new within p g =
+    let is = p.begins.is in
+    let v = view_of old in
+    let bs = reverse old.brackets.items in
+    let more = brackets_for (length v.marks) (length v.waiting) end p.atom in
+    let read = put-read source targets v bs g.segments at end new.ends is.further is.boundary p.knows g.read rules p.atom is p.begins.there in
+    let view : view_of new ≡ put_view v source at end p.atom new.ends =
+    same-view (view_of new) (put_view v source at end p.atom new.ends) p.lines p.marks p.runs p.waiting (ap (λ x. x.items) p.pairs) (ap (λ x. x.items) p.links) p.links_end refl in
+    let brackets : reverse new.brackets.items ≡ reverse more ++ bs = ap reverse p.brackets ∙ reverse-append old.brackets.items more in
+    let items = read.items in
+    let looks : new.runs.openers.looks ≡ old.runs.openers.looks = ap (λ o. o.looks) p.openers in
+    record {
+      segments = g.segments ++ read.more;
+      read = subst (λ b. IsRead source targets end (view_of new) b (g.segments ++ read.more)) (sym brackets) (subst (λ w. IsRead source targets end w (reverse more ++ bs) (g.segments ++ read.more)) (sym view) read.read);
+      goes = ap (λ t. ahead rules (defined_in targets) source t end) items ∙ ahead-atom rules (defined_in targets) source (items_in g.segments) at (item_in source at end p.atom) end within is ∙ g.goes;
+      pays = subst (λ n. Pays rules (defined_in targets) source (items_in (g.segments ++ read.more)) end n) (sym looks)
+          (subst (λ t. Pays rules (defined_in targets) source t end old.runs.openers.looks) (sym items)
+          (atom-more-pays rules (defined_in targets) source (items_in g.segments) at (item_in source at end p.atom) end old.runs.openers.looks within is g.pays));
+    }

@@ -25,3 +25,14 @@ pub before-one : (source : List ℕ) (at end : ℕ) → at < end → at < length
 before-one source at end low within =
     ap (λ t. reverse (slice_range source (at + 1) end) ++ t) (sym (before-later source at (at + 1) (omega arith) ∙ ap (λ t. reverse t ++ reverse (take at source)) (one-slice source at within)))
     ∙ sym (before-later source (at + 1) end (omega (arith, low)))
+
+-- between three places, and none
+pub slice-both : (source : List ℕ) (from to end : ℕ) → from ≤ to → to ≤ end → slice_range source from end ≡ slice_range source from to ++ slice_range source to end
+slice-both source from to end first second =
+    let long : end - from ≡ to - from + (end - to) = omega (arith, first, second) in
+    let place : from + (to - from) ≡ to = omega (arith, first) in
+    ap (λ n. take n (drop from source)) long ∙ take-add (to - from) (end - to) (drop from source)
+    ∙ ap (λ t. slice_range source from to ++ take (end - to) t) (drop-drop (to - from) from source ∙ ap (λ n. drop n source) place)
+
+pub slice-none : (source : List ℕ) (from : ℕ) → slice_range source from from ≡ []
+slice-none source from = let none : from - from ≡ 0 = omega arith in ap (λ n. take n (drop from source)) none

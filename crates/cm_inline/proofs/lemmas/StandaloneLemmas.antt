@@ -18,27 +18,7 @@ use Rattle.cm_scan.specs.Scanned.{whole_of}
 use Rattle.cm_scan.specs.spans.CodeSpans.{up_to_run, as_written, spanned_as_written}
 use Rattle.cm_scan.proofs.lemmas.texts.WordsGoOn.{none-some}
 use Rattle.cm_scan.proofs.lemmas.texts.ScannerAnswers.{begins-at}
-use Rattle.cm_tree.specs.declared.tree.Inline.{Inline}
-use Rattle.cm_inline.specs.steps.Nodes.{Node, Whole, Finished}
-use Rattle.cm_inline.specs.declared.standalone.Standalone.{Standalone}
-use Rattle.cm_inline.specs.steps.Reads.{IsAtom}
-use Rattle.cm_inline.specs.steps.Standalone.{inline_in, IsBetween, IsWithin}
-
--- an inline as a node
-abbrev pub finished : Inline → ℕ → Node
-finished inline depth = Finished (λ _. inline) depth false
-
--- an atom that is an inline, by where it is written
-pub whole-is : (rules : Rules) (source : List ℕ) (at : ℕ) (w : Standalone) (depth end : ℕ) → IsWithin source w → IsAtom rules source at (finished (inline_in source w) depth) end → IsAtom rules source at (Whole w) end
-whole-is rules source at w depth end within is = record {
-  rest = is.rest;
-  item = is.item;
-  part = within;
-  further = is.further;
-  within = is.within;
-  boundary = is.boundary;
-  fresh = is.fresh;
-}
+use Rattle.cm_inline.specs.steps.Standalone.{IsBetween}
 
 -- what is before the next run is the front of the text, and a backtick is after it
 

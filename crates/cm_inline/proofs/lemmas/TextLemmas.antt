@@ -18,25 +18,31 @@ use Rattle.cm_tree.specs.declared.tree.Inline.TheVariants.{Text}
 use Rattle.cm_scan.specs.inlines.Brackets.{Defined}
 use Rattle.cm_scan.specs.inlines.Inlines.{inlines_of}
 use Rattle.cm_inline.proofs.lemmas.SliceLemmas.{slice-front}
+use Rattle.cm_inline.specs.steps.Marks.{stays_text}
 use Rattle.cm_inline.specs.steps.Reads.{IsTextTo}
 
 -- the bytes up to the first that is looked for
 record UpTo (text : List ℕ) (count : ℕ) : Type 0 where
   within : count ≤ length text
   plain : list_all is_plain_byte (take count text) ≡ true
+  stays : list_all (stays_text true) (take count text) ≡ true
   marked : count < length text → is_marked (get_or text count 0) ≡ true
 
+unmarked-stays : (b : ℕ) → is_marked b ≡ false → stays_text true b ≡ true
+unmarked-stays b e = grind (arith, nat_tests, e)
+
 up-to : (text : List ℕ) → UpTo text (position_or_len is_marked text)
-up-to [] = record { within = omega arith; plain = refl; marked = λ some. absurd (omega (arith, some)) }
+up-to [] = record { within = omega arith; plain = refl; stays = refl; marked = λ some. absurd (omega (arith, some)) }
 up-to (b ∷ bs) = go (is_marked b) refl (up-to bs)
   where
     go : (m : Bool) → is_marked b ≡ m → UpTo bs (position_or_len is_marked bs) → UpTo (b ∷ bs) (cond (not m) (1 + position_or_len is_marked bs) 0)
-    go true e again = record { within = omega arith; plain = refl; marked = λ some. e }
+    go true e again = record { within = omega arith; plain = refl; stays = refl; marked = λ some. e }
     go false e again =
         let one : suc (position_or_len is_marked bs) ≡ 1 + position_or_len is_marked bs = omega arith in
         subst (UpTo (b ∷ bs)) one (record {
           within = omega (arith, again.within);
           plain = ap (λ v. v && list_all is_plain_byte (take (position_or_len is_marked bs) bs)) (unmarked_is_plain b e) ∙ again.plain;
+          stays = ap (λ v. v && list_all (stays_text true) (take (position_or_len is_marked bs) bs)) (unmarked-stays b e) ∙ again.stays;
           marked = λ some. again.marked (omega (arith, some));
         })
 
@@ -45,6 +51,7 @@ record Reaches (source : List ℕ) (at end : ℕ) : Type 0 where
   low : at ≤ end
   within : end ≤ length source
   plain : list_all is_plain_byte (slice_range source at end) ≡ true
+  stays : list_all (stays_text true) (slice_range source at end) ≡ true
   marked : end < length source → is_marked (get_or source end 0) ≡ true
 
 reaches : (source : List ℕ) (at end : ℕ) → at ≤ length source → end ≡ next_place is_marked source at → Reaches source at end
@@ -59,6 +66,7 @@ reaches source at end within e =
       low = omega (arith, place);
       within = omega (arith, place, found.within, size, within);
       plain = ap (λ n. list_all is_plain_byte (take n text)) front ∙ found.plain;
+      stays = ap (λ n. list_all (stays_text true) (take n text)) front ∙ found.stays;
       marked = λ some. ap is_marked (ap (λ n. get_or source n 0) place ∙ sym (get_or-drop at source count 0)) ∙ found.marked (omega (arith, some, place, size, within));
     }
   where
@@ -80,6 +88,7 @@ text-to-markup source at end within e other =
       boundary = boundary found (nat_lt end (length source)) refl;
       plain = found.plain;
       spaces = kept (drop end source) (λ b bs f. next found b bs f);
+      stays = found.stays;
       ascii = λ some. marked-ascii (get_or source end 0) (found.marked some);
     }
   where
@@ -114,11 +123,11 @@ take-past (b ∷ bs) rest = ap (λ t. b ∷ t) (take-past bs rest)
 length-take-le-count : (n : ℕ) (text : List ℕ) → length (take n text) ≤ n
 length-take-le-count n text = omega (arith, length-take n text)
 
-front-plain : (front rest : List ℕ) → list_all is_plain_byte (front ++ rest) ≡ true → list_all is_plain_byte front ≡ true
-front-plain [] rest h = refl
-front-plain (b ∷ bs) rest h =
-    let parts = and_parts (is_plain_byte b) (list_all is_plain_byte (bs ++ rest)) h in
-    ap (λ v. v && list_all is_plain_byte bs) parts.0 ∙ front-plain bs rest parts.1
+front-all : (p : ℕ → Bool) (front rest : List ℕ) → list_all p (front ++ rest) ≡ true → list_all p front ≡ true
+front-all p [] rest h = refl
+front-all p (b ∷ bs) rest h =
+    let parts = and_parts (p b) (list_all p (bs ++ rest)) h in
+    ap (λ v. v && list_all p bs) parts.0 ∙ front-all p bs rest parts.1
 
 -- a space or a line feed comes next
 first-ascii : (source : List ℕ) (at count : ℕ) (rest : List ℕ) → at < length source → drop at source ≡ replicate count 32 ++ rest → get_or rest 0 0 ≡ 10 → get_or source at 0 < 128
@@ -143,7 +152,8 @@ text-to-spaces source at end within e some feed =
     record {
       low = omega arith;
       boundary = IsCharBoundary-before_ascii source (at + length left) inside first;
-      plain = ap (list_all is_plain_byte) part ∙ front-plain left (replicate parts.count 32) (sym (ap (list_all is_plain_byte) parts.is) ∙ found.plain);
+      plain = ap (list_all is_plain_byte) part ∙ front-all is_plain_byte left (replicate parts.count 32) (sym (ap (list_all is_plain_byte) parts.is) ∙ found.plain);
+      stays = ap (list_all (stays_text true)) part ∙ front-all (stays_text true) left (replicate parts.count 32) (sym (ap (list_all (stays_text true)) parts.is) ∙ found.stays);
       spaces = ap (λ t. not ((begins_with 32 (drop (at + length left) source) || begins_with 10 (drop (at + length left) source)) && ends_with 32 t)) part
           ∙ ap (λ v. not ((begins_with 32 (drop (at + length left) source) || begins_with 10 (drop (at + length left) source)) && v)) parts.ended
           ∙ none (begins_with 32 (drop (at + length left) source) || begins_with 10 (drop (at + length left) source));

@@ -1,9 +1,9 @@
 -- How a source is read from one place to the next.
 use Rattle.std.proofs.Common.{◌≡◌, ℕ, zero, ◌+◌, ◌-◌, ◌^◌, ◌<◌, ◌≤◌, Bool, true, false, List, [], ◌∷◌, ◌++◌, length, take, drop, get_or, reverse, Some, refl, sym, ap, subst, ◌∙◌, arith}
-use Rattle.std.specs.Prelude.{nat_lt, if◌then◌else◌, Result, Ok, Err, IfOk}
+use Rattle.std.specs.Prelude.{nat_lt, if◌then◌else◌}
 use Rattle.std.specs.List.{slice_range}
 use Rattle.std.proofs.lemmas.Bool.Decides.{nat_tests}
-use Rattle.std.proofs.lemmas.List.{reverse-append, reverse-reverse, drop_more, append-nil, drop_all, map-append}
+use Rattle.std.proofs.lemmas.List.{reverse-append, reverse-reverse, drop_more, append-nil, drop_all}
 use Rattle.std.proofs.lemmas.List.Concat.{flat_map-append}
 use Rattle.cm_text.specs.Rules.{Rules}
 use Rattle.cm_tree.specs.Definitions.{Targets}
@@ -21,12 +21,11 @@ use Rattle.cm_scan.proofs.lemmas.inlines.ReadingInPieces.{reading_in_pieces}
 use Rattle.cm_inline.specs.Reading.{Refused}
 use Rattle.cm_inline.specs.declared.fault.InlineFault.{InlineFault}
 use Rattle.cm_inline.specs.declared.fault.InlineFault.TheVariants.{InlinesTooDeep, NoMemory, SourceTooLong}
-use Rattle.cm_inline.specs.steps.Nodes.{Node, Piece, item_of, items_of, text_between}
 use Rattle.cm_inline.specs.steps.Brackets.{closed_at}
 use Rattle.cm_inline.specs.steps.Depths.{items_depth}
-use Rattle.cm_inline.specs.steps.Reads.{Stands, atom_in, item_for, IsAtom, IsTextTo, ahead}
-use Rattle.cm_inline.proofs.lemmas.DeeperLemmas.{emphasis-deeper, reverse-depth, after-deeper}
-use Rattle.cm_inline.proofs.lemmas.PairLemmas.{last-item}
+use Rattle.cm_inline.specs.steps.Reads.{Stands, atom_in, item_for, IsAtom, IsTextTo, ahead, text_items}
+use Rattle.cm_inline.proofs.lemmas.DeeperLemmas.{emphasis-deeper, after-deeper}
+use Rattle.cm_inline.proofs.lemmas.PairDepthLemmas.{reverse-depth}
 use Rattle.cm_inline.proofs.lemmas.SliceLemmas.{slice-front, before-later, before-one}
 
 -- the items from a place on, after items that have the last first
@@ -50,13 +49,13 @@ step-on rules defined source at end items within further rest =
     ∙ ap (λ t. items_after rules defined zero (reverse taken ++ b ∷ before) (drop end source) (item_step rules defined before b t items).items) (sym behind)
     ∙ ap (λ p. items_after rules defined zero p (drop end source) (step_at rules defined source at items).items) (before-one source at end further within)
 
-pub ahead-step : (rules : Rules) (defined : Defined) (source : List ℕ) (nodes more : List Node) (at end : ℕ) → at < length source → at < end
-    → step_at rules defined source at (reverse (items_of source nodes)) ≡ record { items = reverse (items_of source more); rest = drop end source }
-    → ahead rules defined source more end ≡ ahead rules defined source nodes at
-ahead-step rules defined source nodes more at end within further gives =
+pub ahead-step : (rules : Rules) (defined : Defined) (source : List ℕ) (so_far more : List pairing.Item) (at end : ℕ) → at < length source → at < end
+    → step_at rules defined source at (reverse so_far) ≡ record { items = reverse more; rest = drop end source }
+    → ahead rules defined source more end ≡ ahead rules defined source so_far at
+ahead-step rules defined source so_far more at end within further gives =
     ap (λ t. in_pieces (reverse t)) (
     ap (items_from rules defined source end) (ap (λ (s : Bracketed). s.items) (sym gives))
-    ∙ sym (step-on rules defined source at end (reverse (items_of source nodes)) within further (ap (λ (s : Bracketed). s.rest) gives))
+    ∙ sym (step-on rules defined source at end (reverse so_far) within further (ap (λ (s : Bracketed). s.rest) gives))
     )
 
 -- an atom that puts one item
@@ -68,94 +67,87 @@ adds-item rules defined items (Delimiter run) rest i e = ap (λ i. with_item ite
 adds-item rules defined items (OpenBracket image) rest i e = ap (λ i. with_item items i rest) (cc e)
 adds-item rules defined items CloseBracket rest i e = absurd (cc e)
 
-pub ahead-atom : (rules : Rules) (defined : Defined) (source : List ℕ) (nodes : List Node) (at : ℕ) (node : Node) (end : ℕ) → at < length source → IsAtom rules source at node end
-    → ahead rules defined source (nodes ++ node ∷ []) end ≡ ahead rules defined source nodes at
+pub ahead-atom : (rules : Rules) (defined : Defined) (source : List ℕ) (so_far : List pairing.Item) (at : ℕ) (item : pairing.Item) (end : ℕ) → at < length source → IsAtom rules source at item end
+    → ahead rules defined source (so_far ++ item ∷ []) end ≡ ahead rules defined source so_far at
 unfolding item_step
-ahead-atom rules defined source nodes at node end within is =
-    let items = reverse (items_of source nodes) in
+ahead-atom rules defined source so_far at item end within is =
+    let items = reverse so_far in
     let a = atom_in rules source at in
-    ahead-step rules defined source nodes (nodes ++ node ∷ []) at end within is.further (
-    adds-item rules defined items a.atom a.rest (item_of source node) is.item
-    ∙ ap (λ t. with_item items (item_of source node) t) is.rest
-    ∙ ap (λ t. record { items = t; rest = drop end source }) (sym (last-item source nodes node))
+    ahead-step rules defined source so_far (so_far ++ item ∷ []) at end within is.further (
+    adds-item rules defined items a.atom a.rest item is.item_is
+    ∙ ap (λ t. with_item items item t) is.rest
+    ∙ ap (λ t. record { items = t; rest = drop end source }) (sym (reverse-append so_far (item ∷ [])))
     )
 
-pub bracket-at : (rules : Rules) (defined : Defined) (source : List ℕ) (nodes : List Node) (at : ℕ) → Stands source at 93 → step_at rules defined source at (reverse (items_of source nodes)) ≡ closed_at rules defined source nodes at
-bracket-at rules defined source nodes at stands =
-    ap (λ b. item_step rules defined (reverse (take at source)) b (drop (at + 1) source) (reverse (items_of source nodes))) stands.byte
-    ∙ bracket_step rules defined (reverse (take at source)) (drop (at + 1) source) (reverse (items_of source nodes))
+pub bracket-at : (rules : Rules) (defined : Defined) (source : List ℕ) (so_far : List pairing.Item) (at : ℕ) → Stands source at 93 → step_at rules defined source at (reverse so_far) ≡ closed_at rules defined source so_far at
+bracket-at rules defined source so_far at stands =
+    ap (λ b. item_step rules defined (reverse (take at source)) b (drop (at + 1) source) (reverse so_far)) stands.byte
+    ∙ bracket_step rules defined (reverse (take at source)) (drop (at + 1) source) (reverse so_far)
 
-ahead-bracket : (rules : Rules) (defined : Defined) (source : List ℕ) (nodes more : List Node) (at end : ℕ) → Stands source at 93 → at < end
-    → closed_at rules defined source nodes at ≡ record { items = reverse (items_of source more); rest = drop end source }
-    → ahead rules defined source more end ≡ ahead rules defined source nodes at
-ahead-bracket rules defined source nodes more at end stands further closed =
-    ahead-step rules defined source nodes more at end stands.within further (bracket-at rules defined source nodes at stands ∙ closed)
+pub ahead-bracket : (rules : Rules) (defined : Defined) (source : List ℕ) (so_far more : List pairing.Item) (at end : ℕ) → Stands source at 93 → at < end
+    → closed_at rules defined source so_far at ≡ record { items = reverse more; rest = drop end source }
+    → ahead rules defined source more end ≡ ahead rules defined source so_far at
+ahead-bracket rules defined source so_far more at end stands further closed =
+    ahead-step rules defined source so_far more at end stands.within further (bracket-at rules defined source so_far at stands ∙ closed)
 
--- where the call did its work
-pub ahead-closed : {E : Type 0} (r : Result ℕ E) (rules : Rules) (defined : Defined) (source : List ℕ) (nodes more : List Node) (at : ℕ) (whole : List pairing.Item) → Stands source at 93 → ahead rules defined source nodes at ≡ whole
-    → IfOk r (λ end. at < end) → IfOk r (λ end. closed_at rules defined source nodes at ≡ record { items = reverse (items_of source more); rest = drop end source }) → IfOk r (λ end. ahead rules defined source more end ≡ whole)
-ahead-closed (Ok end) rules defined source nodes more at whole stands same further closed = ahead-bracket rules defined source nodes more at end stands further closed ∙ same
-ahead-closed (Err e) rules defined source nodes more at whole stands same further closed = tt
-
--- nodes with one more, in pieces
-pieces-more : (source : List ℕ) (nodes : List Node) (node : Node) → in_pieces (items_of source (nodes ++ node ∷ [])) ≡ in_pieces (items_of source nodes) ++ pieces_of (item_of source node)
-pieces-more source nodes node =
-    ap in_pieces (map-append (item_of source) nodes (node ∷ [])) ∙ flat_map-append pieces_of (items_of source nodes) (item_of source node ∷ [])
-    ∙ ap (λ t. in_pieces (items_of source nodes) ++ t) (append-nil (pieces_of (item_of source node)))
+-- items with one more, in pieces
+pieces-more : (source : List ℕ) (so_far : List pairing.Item) (item : pairing.Item) → in_pieces (so_far ++ item ∷ []) ≡ in_pieces so_far ++ pieces_of item
+pieces-more source so_far item =
+    flat_map-append pieces_of so_far (item ∷ []) ∙ ap (λ t. in_pieces so_far ++ t) (append-nil (pieces_of item))
 
 pieces-pieces : (text : List ℕ) → in_pieces (one_by_one text) ≡ one_by_one text
 pieces-pieces [] = refl
 pieces-pieces (b ∷ bs) = ap (λ t. pairing.Characters (b ∷ []) ∷ t) (pieces-pieces bs)
 
-pub text-pieces : (source : List ℕ) (nodes : List Node) (at end : ℕ) → let text = slice_range source at end in
-    in_pieces (reverse (reverse (one_by_one text) ++ reverse (items_of source nodes))) ≡ in_pieces (reverse (reverse (items_of source (nodes ++ Piece at end ∷ []))))
-text-pieces source nodes at end =
+pub text-pieces : (source : List ℕ) (so_far : List pairing.Item) (at end : ℕ) → let text = slice_range source at end in
+    in_pieces (reverse (reverse (one_by_one text) ++ reverse so_far)) ≡ in_pieces (reverse (reverse (so_far ++ pairing.Characters (slice_range source at end) ∷ [])))
+text-pieces source so_far at end =
     let text = one_by_one (slice_range source at end) in
-    let items = items_of source nodes in
+    let items = so_far in
     ap in_pieces (reverse-append (reverse text) (reverse items) ∙ ap (λ t. t ++ reverse (reverse text)) (reverse-reverse items) ∙ ap (λ t. items ++ t) (reverse-reverse text))
     ∙ flat_map-append pieces_of items text
     ∙ ap (λ t. in_pieces items ++ t) (pieces-pieces (slice_range source at end))
-    ∙ sym (pieces-more source nodes (Piece at end))
-    ∙ ap in_pieces (sym (reverse-reverse (items_of source (nodes ++ Piece at end ∷ []))))
+    ∙ sym (pieces-more source so_far (pairing.Characters (slice_range source at end)))
+    ∙ ap in_pieces (sym (reverse-reverse (so_far ++ pairing.Characters (slice_range source at end) ∷ [])))
 
-text-on : (rules : Rules) (defined : Defined) (source : List ℕ) (nodes : List Node) (at end : ℕ) → IsTextTo source at end
-    → ahead rules defined source (nodes ++ Piece at end ∷ []) end ≡ ahead rules defined source nodes at
-text-on rules defined source nodes at end is =
+text-on : (rules : Rules) (defined : Defined) (source : List ℕ) (so_far : List pairing.Item) (at end : ℕ) → IsTextTo source at end
+    → ahead rules defined source (so_far ++ pairing.Characters (slice_range source at end) ∷ []) end ≡ ahead rules defined source so_far at
+text-on rules defined source so_far at end is =
     let text = slice_range source at end in
     let before = reverse (take at source) in
-    let items = reverse (items_of source nodes) in
+    let items = reverse so_far in
     sym (
     ap (λ t. in_pieces (reverse t)) (
     ap (λ t. items_after rules defined zero before t items) (slice-front source at end is.low)
     ∙ plain_front_is_text rules defined before text (drop end source) items is.plain is.spaces
     ∙ ap (λ p. items_after rules defined zero p (drop end source) (reverse (one_by_one text) ++ items)) (sym (before-later source at end is.low))
     )
-    ∙ reading_in_pieces rules defined zero (reverse (take end source)) (drop end source) (reverse (one_by_one text) ++ items) (reverse (items_of source (nodes ++ Piece at end ∷ []))) (text-pieces source nodes at end)
+    ∙ reading_in_pieces rules defined zero (reverse (take end source)) (drop end source) (reverse (one_by_one text) ++ items) (reverse (so_far ++ pairing.Characters (slice_range source at end) ∷ [])) (text-pieces source so_far at end)
     )
 
 pub nat_lt-false : (a b : ℕ) → nat_lt a b ≡ false → b ≤ a
 nat_lt-false a b e = grind (arith, nat_tests, e)
 
-pub ahead-text : (rules : Rules) (defined : Defined) (source : List ℕ) (nodes : List Node) (at end : ℕ) → IsTextTo source at end
-    → ahead rules defined source (nodes ++ text_between at end) end ≡ ahead rules defined source nodes at
-ahead-text rules defined source nodes at end is = go (nat_lt at end) refl
+pub ahead-text : (rules : Rules) (defined : Defined) (source : List ℕ) (so_far : List pairing.Item) (at end : ℕ) → IsTextTo source at end
+    → ahead rules defined source (so_far ++ text_items source at end) end ≡ ahead rules defined source so_far at
+ahead-text rules defined source so_far at end is = go (nat_lt at end) refl
   where
-    go : (some : Bool) → nat_lt at end ≡ some → ahead rules defined source (nodes ++ (if some then Piece at end ∷ [] else [])) end ≡ ahead rules defined source nodes at
-    go true e = text-on rules defined source nodes at end is
+    go : (some : Bool) → nat_lt at end ≡ some → ahead rules defined source (so_far ++ (if some then pairing.Characters (slice_range source at end) ∷ [] else [])) end ≡ ahead rules defined source so_far at
+    go true e = text-on rules defined source so_far at end is
     go false e =
         let same : end ≡ at = omega (arith, is.low, nat_lt-false at end e) in
-        ap (λ t. ahead rules defined source t end) (append-nil nodes) ∙ ap (ahead rules defined source nodes) same
+        ap (λ t. ahead rules defined source t end) (append-nil so_far) ∙ ap (ahead rules defined source so_far) same
 
 -- at the start and at the end of a source
 pub ahead-start : (rules : Rules) (defined : Defined) (source : List ℕ) → ahead rules defined source [] zero ≡ in_pieces (inlines.items_of rules defined source)
 unfolding inlines.items_of
 ahead-start rules defined source = refl
 
-pub ahead-end : (rules : Rules) (defined : Defined) (source : List ℕ) (nodes : List Node) (at : ℕ) → length source ≤ at → ahead rules defined source nodes at ≡ in_pieces (items_of source nodes)
+pub ahead-end : (rules : Rules) (defined : Defined) (source : List ℕ) (so_far : List pairing.Item) (at : ℕ) → length source ≤ at → ahead rules defined source so_far at ≡ in_pieces so_far
 unfolding items_after
-ahead-end rules defined source nodes at past =
-    ap (λ t. in_pieces (reverse (items_after rules defined zero (reverse (take at source)) t (reverse (items_of source nodes))))) (drop_all at source past)
-    ∙ ap in_pieces (reverse-reverse (items_of source nodes))
+ahead-end rules defined source so_far at past =
+    ap (λ t. in_pieces (reverse (items_after rules defined zero (reverse (take at source)) t (reverse so_far)))) (drop_all at source past)
+    ∙ ap in_pieces (reverse-reverse so_far)
 
 -- the inlines of items that are a source's, in pieces
 pub inlines-are : (rules : Rules) (defined : Defined) (source : List ℕ) (items : List pairing.Item) → in_pieces items ≡ in_pieces (inlines.items_of rules defined source) → emphasis_of items ≡ inlines_of rules defined source
@@ -163,20 +155,20 @@ unfolding inlines_of
 inlines-are rules defined source items same = sym (texts_in_pieces items) ∙ ap emphasis_of same ∙ texts_in_pieces (inlines.items_of rules defined source)
 
 -- What a `]` makes is never less deep once reading went on.
-pub closed-deeper : (rules : Rules) (defined : Defined) (source : List ℕ) (nodes : List Node) (at limit : ℕ) → Stands source at 93 → limit < items_depth (closed_at rules defined source nodes at).items
-    → limit < inlines_depth (emphasis_of (ahead rules defined source nodes at))
+pub closed-deeper : (rules : Rules) (defined : Defined) (source : List ℕ) (so_far : List pairing.Item) (at limit : ℕ) → Stands source at 93 → limit < items_depth (closed_at rules defined source so_far at).items
+    → limit < inlines_depth (emphasis_of (ahead rules defined source so_far at))
 unfolding items_after
-closed-deeper rules defined source nodes at limit stands deep =
+closed-deeper rules defined source so_far at limit stands deep =
     let b = get_or source at 0 in
     let before = reverse (take at source) in
     let bs = drop (at + 1) source in
-    let items = reverse (items_of source nodes) in
+    let items = reverse so_far in
     let next = item_step rules defined before b bs items in
     let later = items_from rules defined source at items in
     let first : later ≡ items_after rules defined (length bs - length next.rest) (b ∷ before) bs next.items = ap (λ t. items_after rules defined zero before t items) (drop_more source at 0 stands.within) in
     let kept : items_depth next.items ≤ items_depth later = subst (λ t. items_depth next.items ≤ items_depth t) (sym first) (after-deeper rules defined (length bs - length next.rest) (b ∷ before) bs next.items) in
-    let same : items_depth next.items ≡ items_depth (closed_at rules defined source nodes at).items = ap (λ (s : Bracketed). items_depth s.items) (bracket-at rules defined source nodes at stands) in
-    let whole : inlines_depth (emphasis_of (ahead rules defined source nodes at)) ≡ inlines_depth (emphasis_of (reverse later)) = ap inlines_depth (texts_in_pieces (reverse later)) in
+    let same : items_depth next.items ≡ items_depth (closed_at rules defined source so_far at).items = ap (λ (s : Bracketed). items_depth s.items) (bracket-at rules defined source so_far at stands) in
+    let whole : inlines_depth (emphasis_of (ahead rules defined source so_far at)) ≡ inlines_depth (emphasis_of (reverse later)) = ap inlines_depth (texts_in_pieces (reverse later)) in
     omega (arith, deep, kept, same, whole, emphasis-deeper (reverse later), reverse-depth later)
 
 -- the leaf nests past the limit

@@ -1,53 +1,17 @@
--- The delimiter list as contracts see it: the runs in it, the last first, each with its number in the list.
-use Rattle.std.specs.Prelude.{ℕ, ◌+◌, ◌<◌, Bool, false, ◌&&◌, ◌||◌, ◌==◌, if◌then◌else◌, nat_le, List, [], ◌∷◌, length, sum_by, count_by, Option, Some, None}
+-- The runs that may open as contracts see them: the last first, each with its number.
+use Rattle.std.specs.Prelude.{ℕ, ◌+◌, ◌<◌, Bool, ◌&&◌, nat_le, List, [], ◌∷◌, length, sum_by, count_by}
 use Rattle.cm_scan.specs.inlines.Delimiters.{Run, delimiters_match}
 
--- an entry: its number in the list, the place of its run among the items, and the run
+-- an entry: the number of its run among those of the leaf, and the run
 pub record Entry : Type 0 where
   pub place : ℕ
-  pub item : ℕ
   pub run : Run
 
--- the entries with the last first, how often one was read, and the number that the next one gets
+-- the entries with the last first, how often one was read, and the number of the run at hand
 pub record Listed : Type 0 where
   pub entries : List Entry
   pub looks : ℕ
   pub next : ℕ
-
--- the number of the last entry, if there is one
-abbrev pub first_place : List Entry → Option ℕ
-first_place [] = None
-first_place (e ∷ es) = Some e.place
-
--- the entry of a number with those before it, those before it alone, all others, and whether it is there
-unfoldable pub from_place : ℕ → List Entry → List Entry
-from_place n [] = []
-from_place n (e ∷ es) = if e.place == n then e ∷ es else from_place n es
-
-unfoldable pub after_place : ℕ → List Entry → List Entry
-after_place n [] = []
-after_place n (e ∷ es) = if e.place == n then es else after_place n es
-
-unfoldable pub without_place : ℕ → List Entry → List Entry
-without_place n [] = []
-without_place n (e ∷ es) = if e.place == n then es else e ∷ without_place n es
-
--- an entry with another item and other characters left, and the entries with that at a number
-abbrev pub updated : ℕ → ℕ → Entry → Entry
-updated item left e = record e { item = item; run = record e.run { left = left } }
-
-unfoldable pub leave : ℕ → ℕ → ℕ → List Entry → List Entry
-leave n item left [] = []
-leave n item left (e ∷ es) = if e.place == n then updated item left e ∷ es else e ∷ leave n item left es
-
--- the entries without those between the last and a number
-unfoldable pub between_gone : ℕ → List Entry → List Entry
-between_gone n [] = []
-between_gone n (e ∷ es) = e ∷ from_place n es
-
-unfoldable pub is_listed : ℕ → List Entry → Bool
-is_listed n [] = false
-is_listed n (e ∷ es) = (e.place == n) || is_listed n es
 
 -- the numbers of the entries are below this one
 abbrev pub Below : ℕ → List Entry → Type 0

@@ -1,33 +1,32 @@
 -- Where a link or an image leads, and the place where it ends.
-use Rattle.std.specs.Prelude.{◌≡◌, ℕ, ◌-◌, ◌<◌, ◌≤◌, List, drop, slice_index, Option, Some, None, option_map, codes}
+use Rattle.std.specs.Prelude.{◌≡◌, ℕ, ◌+◌, ◌-◌, ◌<◌, ◌≤◌, List, drop, slice_index, Option, Some, None, option_map, codes}
 use Rattle.std.specs.Borrow.{Bor}
-use Rattle.std.specs.Cow.{cow_str_bytes}
+use Rattle.std.specs.Str.{IsCharBoundary}
 use Rattle.cm_tree.specs.Definitions.{Target}
 use Rattle.cm_scan.specs.Words.{after_word}
 use Rattle.cm_scan.specs.inlines.Brackets as brackets
 use Rattle.cm_scan.specs.inlines.Brackets.{Defined, target_of}
-use Rattle.cm_tree.specs.LinkTargets.{led_to}
+use Rattle.cm_inline.specs.declared.leaf.Leaf.{Leaf}
 use Rattle.cm_inline.specs.declared.links.LinkEnd.{LinkEnd}
-use Rattle.cm_inline.specs.declared.links.FoundTarget.{FoundTarget}
-use Rattle.cm_inline.specs.declared.links.FoundTarget.TheVariants as found
+use Rattle.cm_inline.specs.steps.Marks.{target_in, IsTargetIn}
 use Rattle.cm_text.specs.Bytes.{left_bracket, right_bracket}
 use Rattle.cm_inline.specs.steps.Reads.{Stands}
 
--- `[` ends at the one place, and `]` is at the other, which isn't before that.
-pub record AreBrackets (source : List ℕ) (behind at : ℕ) : Type 0 where
-  pub bracket : (0 < behind) × (slice_index source (behind - 1) ≡ left_bracket)
-  pub order : behind ≤ at
+-- `[` ends at the one place, and `]` is at the other, which isn't before that, with a character or the end after it.
+pub record AreBrackets (source : List ℕ) (after at : ℕ) : Type 0 where
+  pub bracket : (0 < after) × (slice_index source (after - 1) ≡ left_bracket)
+  pub order : after ≤ at
   pub stands : Stands source at right_bracket
+  pub next : IsCharBoundary source (at + 1)
 
--- where it leads, and its title
-abbrev pub found_target : FoundTarget → Target
-found_target (found.Inline dest title) = (cow_str_bytes dest, cow_str_bytes title)
-found_target (found.Defined target) = led_to target
+-- what was found in a leaf, if it was, with what is left after the place where it ends
+abbrev pub ends_of : Leaf → Option LinkEnd → Option brackets.LinkEnd
+ends_of leaf None = None
+ends_of leaf (Some e) = (let target = target_in leaf.source.now leaf.definitions.now e.target in Some (record { dest = target.0; title = target.1; rest = drop e.end leaf.source.now }))
 
--- what was found in a source, if it was, with what is left after the place where it ends
-abbrev pub ends_of : List ℕ → Option LinkEnd → Option brackets.LinkEnd
-ends_of source None = None
-ends_of source (Some e) = Some (record { dest = (found_target e.target).0; title = (found_target e.target).1; rest = drop e.end source })
+-- the place where an end parts characters, and a target of the source or the table
+abbrev pub IsPlaced : Leaf → LinkEnd → Type 0
+IsPlaced leaf e = IsCharBoundary leaf.source.now e.end × IsTargetIn leaf.source.now leaf.definitions.now e.target
 
 -- the end of a reference, with what is left after it, where its label has a target
 abbrev pub leads_to : Option Target → List ℕ → Option brackets.LinkEnd
@@ -39,5 +38,5 @@ target_by defined None = None
 target_by defined (Some label) = target_of defined label.now
 
 -- what is left after `[]`, or all
-abbrev pub behind_brackets : List ℕ → List ℕ
-behind_brackets text = elim (after_word (codes "[]") text) [ Some rest ↦ rest | None ↦ text ]
+abbrev pub after_brackets : List ℕ → List ℕ
+after_brackets text = elim (after_word (codes "[]") text) [ Some rest ↦ rest | None ↦ text ]

@@ -34,12 +34,12 @@ missing_from ends CharacterData = ends.character_data
 missing_from ends Declaration = ends.declaration
 
 -- after the last backtick string of this length that a map of them has, or the start where it has none
-abbrev pub behind_last : BTreeMap ℕ ℕ → ℕ → ℕ
-behind_last last count = option_map_or (λ end. end) (get nat_cmp last count) 0
+abbrev pub after_last : BTreeMap ℕ ℕ → ℕ → ℕ
+after_last last count = option_map_or (λ end. end) (get nat_cmp last count) 0
 
 -- no backtick string of a length follows the last one of that length
 abbrev pub AreLast : List ℕ → BTreeMap ℕ ℕ → Type 0
-AreLast source last = (count : ℕ) → up_to_run count false (drop (behind_last last count) source) ≡ None
+AreLast source last = (count : ℕ) → up_to_run count false (drop (after_last last count) source) ≡ None
 
 abbrev pub AreLastIfKnown : List ℕ → Option (BTreeMap ℕ ℕ) → Type 0
 AreLastIfKnown source None = ⊤

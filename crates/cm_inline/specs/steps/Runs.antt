@@ -1,13 +1,18 @@
--- What the program's delimiter runs and entries stand for in the definitions.
-use Rattle.std.specs.Prelude.{◌≡◌, ℕ, Option, Some, None, List, [], ◌∷◌}
+-- What the program's delimiter runs, openers and pairs stand for in the definitions.
+use Rattle.std.specs.Prelude.{ℕ, List, map}
 use Rattle.cm_scan.specs.inlines.Delimiters.{Run}
 use Rattle.cm_scan.specs.inlines.Delimiters as delimiters
-use Rattle.cm_scan.specs.inlines.Pairing.{Item}
 use Rattle.cm_inline.specs.declared.flanking.Neighbour.{Neighbour}
 use Rattle.cm_inline.specs.declared.delimiter_runs.DelimiterRun.{DelimiterRun}
-use Rattle.cm_inline.specs.steps.Entries.{Entry}
 use Rattle.cm_inline.specs.declared.delimiter_runs.Marker.{Marker}
-use Rattle.cm_inline.specs.declared.delimiter_list.Delimiter.{Delimiter}
+use Rattle.cm_inline.specs.declared.openers.Opener.{Opener}
+use Rattle.cm_inline.specs.declared.runs.Run.{Run as HeldRun}
+use Rattle.cm_inline.specs.declared.runs.Pair.{Pair as HeldPair}
+use Rattle.cm_inline.specs.declared.runs.Emphasis.{Emphasis}
+use Rattle.cm_inline.specs.steps.pairing.Events.{Tag}
+use Rattle.cm_inline.specs.steps.pairing.Events as tags
+use Rattle.cm_inline.specs.steps.pairing.Parts.{Pair, PairedRun}
+use Rattle.cm_inline.specs.steps.Entries.{Entry}
 
 abbrev pub byte_of : Marker → ℕ
 byte_of Marker.Star = 42
@@ -22,14 +27,23 @@ neighbour_of Neighbour.Other = delimiters.other
 abbrev pub run_of : DelimiterRun → Run
 run_of r = record { character = byte_of r.marker; whole = r.whole; left = r.left; opens = r.opens; closes = r.closes }
 
-abbrev pub entry_of : Delimiter → Entry
-entry_of d = record { place = d.place; item = d.item; run = run_of d.run }
+abbrev pub entry_of : Opener → Entry
+entry_of opener = record { place = opener.number; run = run_of opener.run }
 
--- an entry that is found, or none
-abbrev pub MayBeEntry : Option Delimiter → Option Entry → Type 0
-MayBeEntry None e = e ≡ None
-MayBeEntry (Some d) e = e ≡ Some (entry_of d)
+-- a run with its pairs, and the runs of a leaf
+abbrev pub paired_run : HeldRun → PairedRun
+paired_run r = record { run = run_of r.run; opened = r.opened; from = r.from; to = r.to }
 
-abbrev pub rest_of : Option DelimiterRun → List Item
-rest_of None = []
-rest_of (Some r) = Item.Delimiters (run_of r) ∷ []
+abbrev pub runs_in : List HeldRun → List PairedRun
+runs_in runs = map paired_run runs
+
+abbrev pub tag_in : Emphasis → Tag
+tag_in Emphasis.Emph = tags.Emphasis
+tag_in Emphasis.Strong = tags.StrongEmphasis
+tag_in Emphasis.Strike = tags.Strikethrough
+
+abbrev pub pair_in : HeldPair → Pair
+pair_in p = record { tag = tag_in p.emphasis; before = p.before }
+
+abbrev pub pairs_in : List HeldPair → List Pair
+pairs_in pairs = map pair_in pairs

@@ -1,12 +1,12 @@
--- The search for an opener down the list, with bottoms.
-use Rattle.std.specs.Prelude.{◌≡◌, ◌⊎◌, ℕ, suc, ◌+◌, ◌%◌, ◌<◌, true, false, ◌==◌, cond, nat_lt, List, [], ◌∷◌, length, map, get_or, set, sum_by, Option, Some, None}
+-- The search for an opener among those before a closer, with bottoms.
+use Rattle.std.specs.Prelude.{◌≡◌, ◌⊎◌, ℕ, suc, ◌+◌, ◌%◌, ◌<◌, true, false, ◌==◌, cond, nat_lt, List, [], ◌∷◌, get_or, sum_by, Option, Some, None}
 use Rattle.cm_scan.specs.inlines.Delimiters.{Run}
-use Rattle.cm_scan.specs.inlines.Pairing.{Item, Delimiters}
-use Rattle.cm_inline.specs.steps.Entries.{Entry, answers, from_place}
+use Rattle.cm_inline.specs.Closers.{kinds_of_one, kinds_without_tildes}
+use Rattle.cm_inline.specs.steps.Entries.{Entry, answers}
 
 -- The kind of a closer: its character, whether it can also open, its whole length by 3; closers of tildes are of one kind.
 unfoldable pub kind : Run → ℕ
-kind run = cond (run.character == 126) 12 (cond (run.character == 95) 6 0 + cond run.opens 3 0 + run.whole % 3)
+kind run = cond (run.character == 126) kinds_without_tildes (cond (run.character == 95) kinds_of_one 0 + cond run.opens 3 0 + run.whole % 3)
 
 -- a run of stars, of underscores or of tildes
 abbrev pub IsMarked : Run → Type 0
@@ -21,10 +21,10 @@ unfoldable pub looks_for : Run → ℕ → List Entry → ℕ
 looks_for c bottom [] = 0
 looks_for c bottom (e ∷ es) = cond (nat_lt e.place bottom) 0 (suc (cond (answers c e) 0 (looks_for c bottom es)))
 
--- the entries from a number on, if there is one
-abbrev pub from_at : Option ℕ → List Entry → List Entry
-from_at None es = []
-from_at (Some n) es = from_place n es
+-- the entries from the one that is found on
+unfoldable pub from_found : Run → ℕ → List Entry → List Entry
+from_found c bottom [] = []
+from_found c bottom (e ∷ es) = cond (nat_lt e.place bottom) [] (cond (answers c e) (e ∷ es) (from_found c bottom es))
 
 -- no entry below a bottom opens for a closer
 abbrev pub NoneBeneath : Run → ℕ → List Entry → Type 0
@@ -39,20 +39,6 @@ NoneAnswers c (e ∷ es) = (answers c e ≡ false) × NoneAnswers c es
 abbrev pub AreSound : List ℕ → List Entry → Type 0
 AreSound bottoms es = (c : Run) → IsMarked c → c.closes ≡ true → NoneBeneath c (get_or bottoms (kind c) 0) es
 
--- The openers among the items before a place, which are given with the last first: where each is, and its run.
-unfoldable pub openers_of : List Item → List (ℕ × Run)
-openers_of [] = []
-openers_of (Delimiters r ∷ before) = cond r.opens ((length before, r) ∷ openers_of before) (openers_of before)
-openers_of (i ∷ before) = openers_of before
-
-abbrev pub places_of : List Entry → List (ℕ × Run)
-places_of = map (λ e. (e.item, e.run))
-
 -- how many characters are left in the entries
 abbrev pub characters : List Entry → ℕ
 characters = sum_by (λ e. e.run.left)
-
--- the bottoms after a search: raised where nothing was found
-abbrev pub bottoms_after : {A : Type 0} → Option A → ℕ → ℕ → List ℕ → List ℕ
-bottoms_after None k n bottoms = set bottoms k n
-bottoms_after (Some a) k n bottoms = bottoms

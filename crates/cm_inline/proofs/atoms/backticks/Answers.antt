@@ -1,13 +1,12 @@
 use Rattle.std.proofs.Common.{◌≡◌, ◌+◌, ◌-◌, None, sym, subst, drop, arith, ap, ◌∙◌}
 use Rattle.cm_tree.specs.declared.tree.Inline.TheVariants as inlines
 use Rattle.cm_scan.specs.spans.CodeSpans.{one_line, stripped}
-use Rattle.cm_inline.specs.declared.standalone.Standalone.TheVariants.{Code}
-use Rattle.cm_inline.proofs.lemmas.StandaloneLemmas.{finished, whole-is, span-placed}
+use Rattle.cm_scan.specs.inlines.Pairing.{Finished}
+use Rattle.cm_inline.proofs.lemmas.StandaloneLemmas.{span-placed}
 use Rattle.cm_scan.specs.Words.{run_length}
 use Rattle.cm_scan.proofs.lemmas.spans.BacktickStrings.{span-content}
-use Rattle.cm_inline.specs.declared.tokens.Token.TheVariants.{Piece}
 use Rattle.cm_inline.specs.steps.Reads.{IsAtom}
-use Rattle.cm_inline.proofs.lemmas.AtomLemmas.{told, code-span-is, backticks-are}
+use Rattle.cm_inline.proofs.lemmas.AtomLemmas.{code-span-is, backticks-are}
 use Rattle.cm_inline.proofs.lemmas.MissingEndsLemmas.{no-code-span}
 use Rattle.cm_inline.proofs.atoms.backticks.Goals as goal
 
@@ -19,8 +18,7 @@ returns-then-is_last_backticks-clause-atom c =
     let size : run_length 96 (drop c.args.at source) ≡ start - c.args.at = omega (arith, run.end) in
     let place : start ≡ c.args.at + (start - c.args.at) = omega (arith, run.end) in
     let none = no-code-span source c.args.at (start - c.args.at) start place size (c.is_last_backticks.ensures c.if-is_last_backticks.true) in
-    λ rules. told rules source c.args.at c.text.result (Piece c.args.at start) start c.text.ensures
-    (backticks-are rules source c.args.at start c.requires.stands (span-content (drop c.args.at source) None (sym none)) run.end run.behind (run.boundary (omega arith) c.requires.stands.boundary))
+    λ rules. (backticks-are rules source c.args.at start c.requires.stands (span-content (drop c.args.at source) None (sym none)) run.end run.behind (run.boundary (omega arith) c.requires.stands.boundary))
 
 pub content_between-from-requires : goal.content_between-from-requires
 content_between-from-requires c =
@@ -39,14 +37,15 @@ returns-in-Some-clause-atom c =
     let placed = span-placed source at start inside (drop end source) c.in-Some.ensures.read run.behind (run.boundary (omega arith) c.requires.stands.boundary) in
     let between = c.content_between-from.ensures in
     let text = between.stripped ∙ ap (λ t. stripped (one_line t)) placed.is in
-    λ rules. whole-is rules source at (Code c.content_between-from.result.0 c.content_between-from.result.1) 0 end between.between
-    (subst (λ content. IsAtom rules source at (finished (inlines.Code content) 0) end) (sym text)
-    (code-span-is rules source at inside end c.requires.stands c.in-Some.ensures.content c.in-Some.ensures.boundary))
+    λ rules. record {
+      is = subst (λ content. IsAtom rules source at (Finished (inlines.Code content)) end) (sym text)
+          (code-span-is rules source at inside end c.requires.stands c.in-Some.ensures.content c.in-Some.ensures.boundary);
+      there = between.between;
+    }
 
 pub returns-in_ok-look_for_backticks-in-None-clause-atom : goal.returns-in_ok-look_for_backticks-in-None-clause-atom
 returns-in_ok-look_for_backticks-in-None-clause-atom c =
     let source = c.args.source.now in
     let run = c.after_run-start.ensures in
     let start = c.after_run-start.result in
-    λ rules. told rules source c.args.at c.text-in-None.result (Piece c.args.at start) start c.text-in-None.ensures
-    (backticks-are rules source c.args.at start c.requires.stands c.in-None.ensures.content run.end run.behind (run.boundary (omega arith) c.requires.stands.boundary))
+    λ rules. (backticks-are rules source c.args.at start c.requires.stands c.in-None.ensures.content run.end run.behind (run.boundary (omega arith) c.requires.stands.boundary))

@@ -1,15 +1,12 @@
-use Rattle.std.proofs.Common.{◌+◌, true, sym, ◌∙◌}
-use Rattle.cm_inline.specs.declared.tokens.Token.TheVariants.{Piece, Opener}
-use Rattle.cm_inline.proofs.lemmas.AtomLemmas.{told, image-is, bang-is-text}
+use Rattle.std.proofs.Common.{◌+◌, sym, ◌∙◌}
+use Rattle.cm_inline.proofs.lemmas.AtomLemmas.{image-is, bang-is-text}
 use Rattle.cm_inline.proofs.lemmas.LinkLemmas.{next-of}
 use Rattle.cm_inline.proofs.atoms.exclamation_mark.Goals as goal
 
 pub returns-then-is_next : goal.returns-then-is_next
 returns-then-is_next c =
-    λ rules. told rules c.args.source.now c.args.at c.opener.result (Opener true (c.args.at + 2)) (c.args.at + 2) c.opener.ensures
-    (image-is rules c.args.source.now c.args.at c.utf8.source c.requires (sym (next-of 91 c.args.source.now c.as_bytes.result.now (c.args.at + 1) c.is_next.result c.as_bytes.ensures.value c.is_next.ensures) ∙ c.if-is_next.true))
+    λ rules. image-is rules c.args.source.now c.args.at c.utf8.source c.requires (sym (next-of 91 c.args.source.now c.as_bytes.result.now (c.args.at + 1) c.is_next.result c.as_bytes.ensures.value c.is_next.ensures) ∙ c.if-is_next.true)
 
 pub returns : goal.returns
 returns c =
-    λ rules. told rules c.args.source.now c.args.at c.text.result (Piece c.args.at (c.args.at + 1)) (c.args.at + 1) c.text.ensures
-    (bang-is-text rules c.args.source.now c.args.at c.utf8.source c.requires (sym (next-of 91 c.args.source.now c.as_bytes.result.now (c.args.at + 1) c.is_next.result c.as_bytes.ensures.value c.is_next.ensures) ∙ c.if-is_next.false))
+    λ rules. bang-is-text rules c.args.source.now c.args.at c.utf8.source c.requires (sym (next-of 91 c.args.source.now c.as_bytes.result.now (c.args.at + 1) c.is_next.result c.as_bytes.ensures.value c.is_next.ensures) ∙ c.if-is_next.false)

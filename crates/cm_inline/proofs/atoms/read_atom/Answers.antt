@@ -1,40 +1,43 @@
-use Rattle.std.proofs.Common.{false, ◌≡◌, ◌+◌, ◌<◌, get_or, sym, ap, ◌∙◌, arith}
-use Rattle.cm_inline.specs.declared.tokens.Token.TheVariants.{Piece, Opener}
-use Rattle.cm_inline.specs.steps.Reads.{Stands}
-use Rattle.cm_inline.proofs.lemmas.AtomLemmas.{told, opener-is, lone-is, lone-byte}
+use Rattle.std.proofs.Common.{◌≡◌, ℕ, List, get_or, sym, ap, subst, ◌∙◌, arith}
+use Rattle.cm_inline.specs.declared.atoms.Atom.{Atom}
+use Rattle.cm_scan.specs.inlines.Atoms.{is_markup}
+use Rattle.cm_inline.specs.steps.Reads.{Stands, Begins}
+use Rattle.cm_inline.proofs.lemmas.AtomLemmas.{feed-is, opener-is, lone-byte}
+use Rattle.cm_inline.proofs.atoms.read_atom.Goals.{in-96+in_ok-read-in-96, in-60, in-92, in-38, in-10, in-32, in-33, in-91, in-42, in-95, in-126, in_default}
 use Rattle.cm_inline.proofs.atoms.read_atom.Goals as goal
 
-pub put-requires-clause-atom : goal.put-requires-clause-atom
-put-requires-clause-atom c = c.in_ok-read-in-96.ensures.atom c.args.rules
+pub put-requires-clause-begins : goal.put-requires-clause-begins
+put-requires-clause-begins c = elim c.match-as_bytes-at.branch [
+  | in-96+in_ok-read-in-96 w ↦ told w.read-is (w.in_ok-read-in-96.ensures.atom c.args.rules)
+  | in-60 w ↦ told w.read-is w.angle-read.ensures.atom
+  | in-92 w ↦ told w.read-is (w.backslash-read.ensures c.args.rules)
+  | in-38 w ↦ told w.read-is (w.ampersand-read.ensures c.args.rules)
+  | in-10 w ↦ told w.read-is (feed-is c.args.rules source at c.utf8.source (here 10 w.in-10.is))
+  | in-32 w ↦ told w.read-is (w.line_break-read.ensures c.args.rules)
+  | in-33 w ↦ told w.read-is (w.exclamation_mark-read.ensures c.args.rules)
+  | in-91 w ↦ told w.read-is (opener-is c.args.rules source at c.utf8.source (here 91 w.in-91.is))
+  | in-42 w ↦ told w.read-is w.run-read.ensures
+  | in-95 w ↦ told w.read-is w.run-read-in-95.ensures
+  | in-126 w ↦ told w.read-is w.run-read-in-126.ensures
+  | in_default w ↦ told w.read-is (w.byte-read.ensures c.args.rules)
+]
+  where
+    source : List ℕ
+    source = c.args.source.now
 
-pub put-requires-in-92-clause-atom : goal.put-requires-in-92-clause-atom
-put-requires-in-92-clause-atom c = c.backslash.ensures c.args.rules
+    at : ℕ
+    at = c.args.at
 
-pub put-requires-in-38-clause-atom : goal.put-requires-in-38-clause-atom
-put-requires-in-38-clause-atom c = c.ampersand.ensures c.args.rules
+    told : {read : Atom × ℕ} → c.match-as_bytes-at.read ≡ read → Begins c.args.rules source at read.0 read.1 → Begins c.args.rules source at c.match-as_bytes-at.read.0 c.match-as_bytes-at.read.1
+    told e is = subst (λ (r : Atom × ℕ). Begins c.args.rules source at r.0 r.1) (sym e) is
 
-pub put-requires-in-10-clause-atom : goal.put-requires-in-10-clause-atom
-put-requires-in-10-clause-atom c = c.line_feed.ensures c.args.rules
+    here : (b : ℕ) → get_or c.as_bytes.result.now at 0 ≡ b → Stands source at b
+    here b is = record { short = c.requires.short; within = c.requires.within; boundary = c.requires.boundary; byte = ap (λ t. get_or t at 0) (sym c.as_bytes.ensures.value) ∙ is }
 
-pub put-requires-in-32-clause-atom : goal.put-requires-in-32-clause-atom
-put-requires-in-32-clause-atom c = c.line_break.ensures c.args.rules
-
-pub put-requires-in-33-clause-atom : goal.put-requires-in-33-clause-atom
-put-requires-in-33-clause-atom c = c.exclamation_mark.ensures c.args.rules
-
-pub put-requires-in_default-clause-atom : goal.put-requires-in_default-clause-atom
-put-requires-in_default-clause-atom c =
-    let source = c.args.source.now in
+pub byte-read-requires-clause-lone : goal.byte-read-requires-clause-lone
+byte-read-requires-clause-lone c =
     let b = get_or c.as_bytes.result.now c.args.at 0 in
-    let byte : get_or source c.args.at 0 ≡ b = ap (λ t. get_or t c.args.at 0) (sym c.as_bytes.ensures.value) in
-    let stands : Stands source c.args.at b = record { short = c.requires.short; within = c.requires.within; boundary = c.requires.boundary; byte = byte } in
-    let ascii : b < 128 = omega (arith, byte, c.requires.ascii) in
-    let lone = lone-byte b (λ e. absurd (omega (arith, e))) (λ e. absurd (omega (arith, e))) (λ e. absurd (omega (arith, e))) (λ e. absurd (omega (arith, e))) (λ e. absurd (omega (arith, e))) (λ e. absurd (omega (arith, e)))
-    (λ e. absurd (omega (arith, e))) (λ e. absurd (omega (arith, e))) (λ e. c.requires.other (byte ∙ e)) (λ e. absurd (omega (arith, e))) (λ e. absurd (omega (arith, e))) (λ e. absurd (omega (arith, e))) in
-    told c.args.rules source c.args.at c.text.result (Piece c.args.at (c.args.at + 1)) (c.args.at + 1) c.text.ensures (lone-is c.args.rules source c.args.at b c.utf8.source stands ascii lone)
-
-pub put-requires-in-91-clause-atom : goal.put-requires-in-91-clause-atom
-put-requires-in-91-clause-atom c =
-    let source = c.args.source.now in
-    let byte : get_or source c.args.at 0 ≡ 91 = ap (λ t. get_or t c.args.at 0) (sym c.as_bytes.ensures.value) ∙ c.in-91.is in
-    told c.args.rules source c.args.at c.opener.result (Opener false (c.args.at + 1)) (c.args.at + 1) c.opener.ensures (opener-is c.args.rules source c.args.at c.utf8.source (record { short = c.requires.short; within = c.requires.within; boundary = c.requires.boundary; byte = byte }))
+    let same : get_or c.args.source.now c.args.at 0 ≡ b = ap (λ t. get_or t c.args.at 0) (sym c.as_bytes.ensures.value) in
+    ap is_markup same
+    ∙ lone-byte b (λ e. absurd (omega (arith, e))) (λ e. absurd (omega (arith, e))) (λ e. absurd (omega (arith, e))) (λ e. absurd (omega (arith, e))) (λ e. absurd (omega (arith, e))) (λ e. absurd (omega (arith, e)))
+    (λ e. absurd (omega (arith, e))) (λ e. absurd (omega (arith, e))) (λ e. c.requires.other (same ∙ e)) (λ e. absurd (omega (arith, e))) (λ e. absurd (omega (arith, e))) (λ e. absurd (omega (arith, e)))

@@ -1,10 +1,9 @@
 use Rattle.std.proofs.Common.{◌<◌, ◌+◌, drop, arith, sym, ap, ◌∙◌}
 use Rattle.cm_scan.specs.Words.{run_length, after_run}
-use Rattle.cm_inline.specs.declared.tokens.Token.TheVariants.{Piece}
 use Rattle.cm_inline.specs.declared.delimiter_runs.Marker.{Marker}
 use Rattle.cm_inline.specs.declared.delimiter_runs.Marker.TheVariants.{Star, Underscore, Tilde}
 use Rattle.cm_inline.specs.steps.Runs.{byte_of}
-use Rattle.cm_inline.proofs.lemmas.AtomLemmas.{told, marker-text-is, marker-run-is}
+use Rattle.cm_inline.proofs.lemmas.AtomLemmas.{marker-text-is, marker-run-is}
 use Rattle.cm_inline.proofs.atoms.run.Goals as goal
 
 small : (m : Marker) → byte_of m < 128
@@ -18,7 +17,6 @@ returns-then-not-is_run c =
     let m = c.args.marker in
     let end = c.after_run-end.result in
     let run = c.after_run-end.ensures in
-    told c.args.rules source c.args.at c.text.result (Piece c.args.at end) end c.text.ensures
     (marker-text-is c.args.rules source c.args.at m end c.requires (sym c.is_run.ensures ∙ c.if-not-is_run.true) (run.end ∙ ap (λ b. c.args.at + run_length b (drop c.args.at source)) c.byte.ensures)
     (run.behind ∙ ap (λ b. after_run b (drop c.args.at source)) c.byte.ensures) (run.boundary (omega (arith, small m, c.byte.ensures)) c.requires.boundary))
 

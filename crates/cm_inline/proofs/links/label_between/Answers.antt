@@ -6,23 +6,23 @@ use Rattle.cm_inline.proofs.links.label_between.Goals as goal
 pub returns-in_err-between : goal.returns-in_err-between
 returns-in_err-between c = λ defined.
     let source = c.args.source.now in
-    let place : c.args.behind ≡ c.args.behind - 1 + 1 = omega (arith, c.requires.bracket.0) in
-    let within : c.args.behind - 1 < length source = omega (arith, c.requires.order, c.requires.stands.within) in
+    let place : c.args.after ≡ c.args.after - 1 + 1 = omega (arith, c.requires.bracket.0) in
+    let within : c.args.after - 1 < length source = omega (arith, c.requires.order, c.requires.stands.within) in
     ap (target_by defined) c.from_residual.ensures
-    ∙ no-label source (c.args.behind - 1) c.args.at defined c.args.behind place within c.requires.bracket.1 c.requires.order c.requires.stands c.in_err-between.ensures.read
+    ∙ no-label source (c.args.after - 1) c.args.at defined c.args.after place within c.requires.bracket.1 c.requires.order c.requires.stands c.in_err-between.ensures.read
 
 pub returns-then-end-at : goal.returns-then-end-at
 returns-then-end-at c = λ defined.
     let source = c.args.source.now in
-    let place : c.args.behind ≡ c.args.behind - 1 + 1 = omega (arith, c.requires.bracket.0) in
-    let within : c.args.behind - 1 < length source = omega (arith, c.requires.order, c.requires.stands.within) in
-    other-label source (c.args.behind - 1) c.args.at defined c.args.behind c.in_ok-between.end c.in_ok-between.between.now place within c.requires.bracket.1 c.requires.order c.requires.stands
+    let place : c.args.after ≡ c.args.after - 1 + 1 = omega (arith, c.requires.bracket.0) in
+    let within : c.args.after - 1 < length source = omega (arith, c.requires.order, c.requires.stands.within) in
+    other-label source (c.args.after - 1) c.args.at defined c.args.after c.in_ok-between.end c.in_ok-between.between.now place within c.requires.bracket.1 c.requires.order c.requires.stands
     c.in_ok-between.ensures.read c.in_ok-between.ensures.boundary.0 c.if-end-at.true
 
 pub returns : goal.returns
 returns c = λ defined.
     let source = c.args.source.now in
-    let place : c.args.behind ≡ c.args.behind - 1 + 1 = omega (arith, c.requires.bracket.0) in
-    let within : c.args.behind - 1 < length source = omega (arith, c.requires.order, c.requires.stands.within) in
-    this-label source (c.args.behind - 1) c.args.at defined c.args.behind c.in_ok-between.end c.in_ok-between.between.now place within c.requires.bracket.1 c.requires.order c.requires.stands
+    let place : c.args.after ≡ c.args.after - 1 + 1 = omega (arith, c.requires.bracket.0) in
+    let within : c.args.after - 1 < length source = omega (arith, c.requires.order, c.requires.stands.within) in
+    this-label source (c.args.after - 1) c.args.at defined c.args.after c.in_ok-between.end c.in_ok-between.between.now place within c.requires.bracket.1 c.requires.order c.requires.stands
     c.in_ok-between.ensures.read c.if-end-at.false

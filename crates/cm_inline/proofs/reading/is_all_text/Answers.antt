@@ -1,10 +1,14 @@
-use Rattle.std.proofs.Common.{◌≡◌, ◌+◌, get_or, sym, ap, ◌∙◌, arith}
+use Rattle.std.proofs.Common.{◌≡◌, ◌+◌, get_or, refl, sym, ap, ◌∙◌, arith}
 use Rattle.std.proofs.lemmas.Str.{IsCharBoundary-after_ascii}
-use Rattle.cm_inline.proofs.lemmas.PlainLemmas.{text-start, text-further, feed-further, all-text}
+use Rattle.cm_inline.proofs.lemmas.PlainLemmas.{text-start, text-further, feed-further, plain-further, plain-feed, all-text}
 use Rattle.cm_inline.proofs.reading.is_all_text.Goals as goal
 
 pub loop-end-init : goal.loop-end-init
-loop-end-init c = record { boundary = c.requires.boundary; read = text-further c.args.source.now 0 c.args.first c.requires (text-start c.args.source.now) }
+loop-end-init c = record {
+  boundary = c.requires.boundary;
+  read = text-further c.args.source.now 0 c.args.first c.requires (text-start c.args.source.now);
+  plain = plain-further c.args.source.now 0 c.args.first c.requires refl;
+}
 
 pub text_end-end-requires : goal.text_end-end-requires
 text_end-end-requires c =
@@ -19,7 +23,8 @@ loop-end-preserved c =
     record {
       boundary = c.text_end-end.ensures.boundary;
       read = text-further source (c.loop-end.end + 1) c.text_end-end.result c.text_end-end.ensures (feed-further source c.loop-end.end (omega (arith, c.loop-end-test.true)) byte c.loop-end.invariant.read);
+      plain = plain-further source (c.loop-end.end + 1) c.text_end-end.result c.text_end-end.ensures (plain-feed source c.loop-end.end (omega (arith, c.loop-end-test.true)) byte c.loop-end.invariant.plain);
     }
 
 pub returns : goal.returns
-returns c = λ _. all-text c.args.source.now c.loop-end.end (omega (arith, c.loop-end-test.false)) c.loop-end.invariant.read
+returns c = λ _. all-text c.args.source.now c.loop-end.end (omega (arith, c.loop-end-test.false)) c.loop-end.invariant.read c.loop-end.invariant.plain

@@ -1,0 +1,32 @@
+use Rattle.std.proofs.Common.{◌≡◌, length, ap, subst, arith}
+use Rattle.std.proofs.lemmas.List.{get_or_read}
+use Rattle.cm_inline.specs.steps.pairing.Parts.{run_events}
+use Rattle.cm_inline.specs.steps.pairing.States.{no_run, run_at}
+use Rattle.cm_inline.specs.steps.pairing.Readings.{Tags}
+use Rattle.cm_inline.specs.steps.Runs.{paired_run, pairs_in}
+use Rattle.cm_inline.specs.steps.Writing.{Adds}
+use Rattle.cm_inline.proofs.lemmas.HtmlLemmas.{on-ok}
+use Rattle.cm_inline.proofs.lemmas.RunLemmas.{run-known, run-written}
+use Rattle.cm_inline.proofs.html_runs.push_run.Goals as goal
+
+pub push_ends-requires : goal.push_ends-requires
+push_ends-requires c =
+    let runs = c.args.runs.now in
+    let known = run-known runs.runs.items runs.pairs.items c.args.number c.index-run.result.now c.requires.number c.index-run.ensures c.requires.chained in
+    omega (arith, known.to, ap length c.as_slice.ensures.value)
+
+pub push_starts-requires-clause-opened : goal.push_starts-requires-clause-opened
+push_starts-requires-clause-opened c =
+    let runs = c.args.runs.now in
+    let known = run-known runs.runs.items runs.pairs.items c.args.number c.index-run.result.now c.requires.number c.index-run.ensures c.requires.chained in
+    omega (arith, known.opened, ap length c.as_slice-2.ensures.value)
+
+pub returns : goal.returns
+returns c =
+    let runs = c.args.runs.now in
+    let run = c.index-run.result.now in
+    let is : run ≡ run_at runs.runs.items c.args.number = get_or_read runs.runs.items c.args.number run c.requires.number c.index-run.ensures no_run in
+    on-ok c.push_starts.result c.push_starts.ensures
+    (λ opened. subst (λ r. Adds Tags c.args.html.now (run_events (pairs_in runs.pairs.items) c.args.number (paired_run r)) c.push_starts.new.html) is
+    (run-written runs.pairs.items _ _ c.args.number run c.args.html.now c.push_ends.new.html c.push_left.new.html c.push_starts.new.html c.as_slice.ensures.value c.as_slice-2.ensures.value
+    c.in_ok-push_ends.ensures c.in_ok-push_left.ensures opened))

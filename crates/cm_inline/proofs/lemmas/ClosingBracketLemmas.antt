@@ -1,0 +1,144 @@
+-- What a `]` asks of the reader, and how deep what it makes nests.
+use Rattle.std.proofs.Common.{◌≡◌, ℕ, ◌+◌, ◌-◌, ◌^◌, ◌<◌, ◌≤◌, Bool, true, false, List, [], ◌∷◌, ◌++◌, length, drop, get_or, reverse, Some, refl, sym, ap, subst, ◌∙◌, arith, length-append, get_or-drop}
+use Rattle.std.proofs.lemmas.Str.{IsCharBoundary-after_ascii}
+use Rattle.std.specs.Prelude.{nat_lt}
+use Rattle.std.proofs.lemmas.List.{reverse-append, length-map, get_or-map}
+use Rattle.std.proofs.Math.Seq.{drop-append_seam}
+use Rattle.std.proofs.lemmas.List.Sums.{sum_by-cons, sum_by-append}
+use Rattle.cm_text.specs.Rules.{Rules}
+use Rattle.cm_tree.specs.Definitions.{Targets}
+use Rattle.cm_scan.specs.inlines.Brackets.{LinkEnd, Bracketed, defined_in, holds_link, made}
+use Rattle.cm_scan.specs.inlines.Inlines.{nests_past}
+use Rattle.cm_scan.specs.inlines.Pairing.{Item, Characters, Finished, Linked, Delimiters, Opener, bracket_text, pair_all}
+use Rattle.cm_inline.specs.declared.brackets.Bracket.{Bracket}
+use Rattle.cm_inline.specs.declared.brackets.Reader.{Reader}
+use Rattle.cm_inline.specs.declared.runs.Run.{Run as HeldRun}
+use Rattle.cm_inline.specs.declared.runs.Runs.{Runs}
+use Rattle.cm_inline.specs.Closers.{all_kinds}
+use Rattle.cm_inline.specs.steps.pairing.Parts.{Pair, PairedRun, no_run as no_paired_run}
+use Rattle.cm_inline.specs.steps.pairing.Passes.{paid_by, AreNumbers, CanPass, WaitFrom}
+use Rattle.cm_inline.specs.steps.pairing.Segments.{Segment, Waiting, Made, items_in, numbers_in, is_run, AreSegments}
+use Rattle.cm_inline.specs.steps.pairing.States.{no_run, run_at}
+use Rattle.cm_inline.specs.steps.Brackets.{View, view_of, IsOpener, IsRead, Reading, closed_at, end_for}
+use Rattle.cm_inline.specs.steps.Depths.{items_depth}
+use Rattle.cm_inline.specs.steps.Links.{AreBrackets}
+use Rattle.cm_inline.specs.steps.Pairs.{allowed, allowance}
+use Rattle.cm_inline.specs.steps.Reads.{Stands, ahead}
+use Rattle.cm_inline.specs.steps.Runs.{runs_in, pairs_in, paired_run}
+use Rattle.cm_inline.proofs.lemmas.BracketLemmas.{closes-opener, link_made, closed_or}
+use Rattle.cm_inline.proofs.lemmas.ClosedLinkLemmas.{before, inside, awaits, again, or-none}
+use Rattle.cm_inline.proofs.lemmas.DeeperLemmas.{made-depth}
+use Rattle.cm_inline.proofs.lemmas.JoinLemmas.{laid-low}
+use Rattle.cm_inline.proofs.lemmas.OpenLemmas.{numbers-append}
+use Rattle.cm_inline.proofs.lemmas.PairDepthLemmas.{both, reverse-depth, settled-items}
+use Rattle.cm_inline.proofs.lemmas.PaysLemmas.{pays-few}
+use Rattle.cm_inline.proofs.lemmas.RightBracketLemmas.{old-items}
+use Rattle.cm_inline.proofs.lemmas.WholeLemmas.{closed-deeper, nests-ahead}
+
+-- a `[` before the place behind an opener
+pub left-bracket : (source : List ℕ) (image : Bool) (at behind : ℕ) → IsOpener source image at behind → (0 < behind) × (get_or source (behind - 1) 0 ≡ 91)
+left-bracket source image at behind o = go image o.place o.front
+  where
+    there : (n : ℕ) (text : List ℕ) → at + n ≡ behind - 1 → drop at source ≡ text → get_or source (behind - 1) 0 ≡ get_or text n 0
+    there n text place is = ap (λ k. get_or source k 0) (sym place) ∙ sym (get_or-drop at source n 0) ∙ ap (λ t. get_or t n 0) is
+
+    go : (image : Bool) → at + length (bracket_text image) ≡ behind → drop at source ≡ bracket_text image ++ drop behind source → (0 < behind) × (get_or source (behind - 1) 0 ≡ 91)
+    go true place front = (omega (arith, place), there 1 (33 ∷ 91 ∷ drop behind source) (omega (arith, place)) front)
+    go false place front = (omega (arith, place), there 0 (91 ∷ drop behind source) (omega (arith, place)) front)
+
+pub are-brackets : (source : List ℕ) (targets : Targets) (at : ℕ) (v : View) (b : Bracket) (bs : List Bracket) (segments : List Segment) → IsRead source targets at v (b ∷ bs) segments → Stands source at 93 → AreBrackets source b.end at
+are-brackets source targets at v b bs segments r stands =
+    let level = r.open_are in
+    let low = laid-low v.lines source targets v.runs v.links b.end at level.late level.closed.laid in
+    record { bracket = left-bracket source b.image level.at b.end level.bracket; order = low; stands = stands; next = IsCharBoundary-after_ascii source at r.utf8 stands.within (omega (arith, stands.byte)) }
+
+-- the numbers of the runs that wait rise
+
+numbers-from : (low higher high : ℕ) (ns : List ℕ) → low ≤ higher → AreNumbers higher high ns → AreNumbers low high ns
+numbers-from low higher high [] p h = tt
+numbers-from low higher high (n ∷ ns) p h = (omega (arith, p, h.0), h.1, h.2)
+
+waiting-rise : (low : ℕ) (runs : List HeldRun) (pairs : List Pair) (ss : List Segment) → AreSegments (runs_in runs) pairs low ss → AreNumbers low (length runs) (numbers_in ss)
+unfolding numbers_in
+waiting-rise low runs pairs [] h = tt
+waiting-rise low runs pairs (Waiting number run ∷ ss) h = (h.0, omega (arith, h.1, length-map runs paired_run), waiting-rise (number + 1) runs pairs ss h.3)
+waiting-rise low runs pairs (Made parts item high ∷ ss) h = numbers-from low high (length runs) (numbers_in ss) h.0.high_is (waiting-rise high runs pairs ss h.1)
+
+-- and pay for as many looks as their items
+
+other-pays : (item : Item) → is_run item ≡ false → allowed all_kinds item ≡ 0
+other-pays (Characters text) e = refl
+other-pays (Finished inline) e = refl
+other-pays (Linked inline) e = refl
+other-pays (Delimiters run) e = absurd (cc e)
+other-pays (Opener image source) e = refl
+
+waiting-pay : (low : ℕ) (runs : List HeldRun) (pairs : List Pair) (ss : List Segment) → AreSegments (runs_in runs) pairs low ss → paid_by runs (numbers_in ss) ≡ allowance all_kinds (items_in ss)
+unfolding numbers_in items_in
+waiting-pay low runs pairs [] h = refl
+waiting-pay low runs pairs (Waiting number run ∷ ss) h =
+    let left : (run_at runs number).run.left ≡ run.left = ap (λ (r : PairedRun). r.run.left) (sym (get_or-map paired_run runs number no_run no_paired_run (omega (arith, h.1, length-map runs paired_run))) ∙ h.2) in
+    omega (arith, left, sum_by-cons (λ number. all_kinds + 1 + (run_at runs number).run.left) number (numbers_in ss), sum_by-cons (allowed all_kinds) (Delimiters run) (items_in ss), waiting-pay (number + 1) runs pairs ss h.3)
+waiting-pay low runs pairs (Made parts item high ∷ ss) h = omega (arith, sum_by-cons (allowed all_kinds) item (items_in ss), other-pays item h.0.other, waiting-pay high runs pairs ss h.1)
+
+-- so that pairs can be made of those behind a front
+pub can-pass : (from : ℕ) (runs : Runs) (front inside : List Segment) → WaitFrom from runs front inside → runs.openers.looks + allowance all_kinds (items_in (front ++ inside)) < 2 ^ 127 → CanPass from runs
+can-pass from runs front inside a few = record {
+  long = omega (arith, ap length a.waiting, length-append (numbers_in front) (numbers_in inside), a.place);
+  numbers = subst (AreNumbers 0 (length runs.runs.items)) (sym whole) (waiting-rise 0 runs.runs.items (pairs_in runs.pairs.items) (front ++ inside) a.segments);
+  few = omega (arith, few, behind, all, waiting-pay 0 runs.runs.items (pairs_in runs.pairs.items) (front ++ inside) a.segments);
+}
+  where
+    whole : runs.waiting.items ≡ numbers_in (front ++ inside)
+    whole = a.waiting ∙ sym (numbers-append front inside)
+
+    pays : ℕ → ℕ
+    pays number = all_kinds + 1 + (run_at runs.runs.items number).run.left
+
+    behind : paid_by runs.runs.items (drop from runs.waiting.items) ≡ paid_by runs.runs.items (numbers_in inside)
+    behind = ap (λ t. paid_by runs.runs.items (drop from t)) a.waiting ∙ ap (λ n. paid_by runs.runs.items (drop n (numbers_in front ++ numbers_in inside))) (sym a.place) ∙ ap (paid_by runs.runs.items) (drop-append_seam (numbers_in front) (numbers_in inside))
+
+    all : paid_by runs.runs.items (numbers_in (front ++ inside)) ≡ paid_by runs.runs.items (numbers_in front) + paid_by runs.runs.items (numbers_in inside)
+    all = ap (paid_by runs.runs.items) (numbers-append front inside) ∙ sum_by-append pays (numbers_in front) (numbers_in inside)
+
+-- the last open bracket of a reader, whose brackets are the others
+pub last-read : (source : List ℕ) (targets : Targets) (at : ℕ) (was old : Reader) (others : List Bracket) (b : Bracket) (segments : List Segment) → was.brackets.items ≡ others ++ b ∷ [] → view_of old ≡ view_of was
+    → IsRead source targets at (view_of was) (reverse was.brackets.items) segments → IsRead source targets at (view_of old) (b ∷ reverse others) segments
+last-read source targets at was old others b segments had view r =
+    subst (λ t. IsRead source targets at (view_of old) t segments) (ap reverse had ∙ reverse-append others (b ∷ [])) (subst (λ w. IsRead source targets at w (reverse was.brackets.items) segments) (sym view) r)
+
+pub bracket-passes : (rules : Rules) (source : List ℕ) (targets : Targets) (at : ℕ) (was old : Reader) (others : List Bracket) (b : Bracket) → was.brackets.items ≡ others ++ b ∷ [] → view_of old ≡ view_of was
+    → was.runs.openers.looks ≡ old.runs.openers.looks → Reading rules source targets at was → CanPass b.waiting old.runs
+bracket-passes rules source targets at was old others b had view looks g =
+    let r = last-read source targets at was old others b g.segments had view g.read in
+    let few = pays-few rules (defined_in targets) source (items_in g.segments) at was.runs.openers.looks g.pays (omega (arith, r.short)) in
+    can-pass b.waiting old.runs (before source targets at old b (reverse others) g.segments r) (inside source targets at old b (reverse others) g.segments r) (awaits source targets at old b (reverse others) g.segments r)
+    (omega (arith, few, looks, ap (λ t. allowance all_kinds (items_in t)) (again source targets at old b (reverse others) g.segments r)))
+
+-- A link or an image that is too deep makes the leaf too deep.
+pub link-too-deep : (rules : Rules) (source : List ℕ) (targets : Targets) (at limit : ℕ) (was old : Reader) (others : List Bracket) (b : Bracket) (end : LinkEnd) → was.brackets.items ≡ others ++ b ∷ [] → view_of old ≡ view_of was
+    → Stands source at 93 → Some end ≡ end_for rules (defined_in targets) source b old.links_end at → Reading rules source targets at was
+    → ((front inside : List Segment) → WaitFrom b.waiting old.runs front inside → limit < items_depth (pair_all (items_in inside))) → nests_past rules (defined_in targets) limit source ≡ true
+link-too-deep rules source targets at limit was old others b end had view stands ends g deep =
+    let bs = reverse others in
+    let r = last-read source targets at was old others b g.segments had view g.read in
+    let level = r.open_are in
+    let outer = items_in level.front in
+    let inner = items_in level.inside in
+    let link = made b.image end.dest end.title inner in
+    let brackets = are-brackets source targets at (view_of old) b bs g.segments r stands in
+    let holds : holds_link inner ≡ nat_lt b.mark old.links_end = sym (or-none (holds_link inner)) ∙ sym level.link in
+    let closed : closed_at rules (defined_in targets) source (items_in g.segments) at ≡ record { items = reverse (link_made outer inner b.image end.dest end.title); rest = end.rest } =
+    ap (λ t. closed_at rules (defined_in targets) source t at) (old-items source targets at (view_of old) b bs g.segments r)
+    ∙ closes-opener rules (defined_in targets) source outer inner b at old.links_end level.closed.none holds brackets.order stands.within ∙ ap (closed_or outer inner b.image (drop (at + 1) source)) (sym ends) in
+    let within = deep (before source targets at old b bs g.segments r) level.inside (awaits source targets at old b bs g.segments r) in
+    let further : limit < items_depth (closed_at rules (defined_in targets) source (items_in g.segments) at).items = omega (
+      arith,
+      within,
+      settled-items (pair_all inner),
+      made-depth b.image end.dest end.title inner,
+      both outer (link ∷ []),
+      reverse-depth (outer ++ link ∷ []),
+      ap (λ (k : Bracketed). items_depth k.items) closed,
+    ) in
+    nests-ahead rules (defined_in targets) limit source (ahead rules (defined_in targets) source (items_in g.segments) at) g.goes (closed-deeper rules (defined_in targets) source (items_in g.segments) at limit stands further)

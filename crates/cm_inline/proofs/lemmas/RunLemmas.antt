@@ -1,0 +1,41 @@
+-- What a delimiter run writes.
+use Rattle.std.proofs.Common.{◌≡◌, ℕ, ◌<◌, ◌≤◌, List, ◌∷◌, ◌++◌, length, get_or, sym, ap, subst, ◌∙◌, arith}
+use Rattle.std.specs.Prelude.{replicate}
+use Rattle.cm_inline.specs.declared.runs.Run as held
+use Rattle.cm_inline.specs.declared.runs.Pair as made
+use Rattle.cm_inline.specs.steps.pairing.Events.{Rest}
+use Rattle.cm_inline.specs.steps.pairing.Parts.{PairedRun, no_run, starts, ends_between, run_events}
+use Rattle.cm_inline.specs.steps.pairing.States.{AreChained}
+use Rattle.cm_inline.specs.steps.pairing.Readings.{Tags, page, write_all}
+use Rattle.cm_inline.specs.steps.Runs.{byte_of, run_of, paired_run, runs_in, pairs_in}
+use Rattle.cm_inline.specs.steps.Writing.{Adds}
+use Rattle.cm_inline.proofs.lemmas.HtmlLemmas.{run-html}
+use Rattle.cm_inline.proofs.lemmas.LaidLemmas.{get_or-map}
+use Rattle.cm_inline.proofs.lemmas.TagLemmas.{length-pairs}
+use Rattle.cm_inline.proofs.lemmas.WriteLemmas.{write-append}
+
+-- the pairs that a run knows of are there
+pub record RunKnown (pairs : List made.Pair) (r : held.Run) : Type 0 where
+  pub opened : r.opened ≤ length pairs
+  pub order : r.from ≤ r.to
+  pub to : r.to ≤ length pairs
+
+pub run-known : (runs : List held.Run) (pairs : List made.Pair) (number : ℕ) (r : held.Run) → number < length runs → r ≡ get_or runs number r → AreChained (runs_in runs) (pairs_in pairs) → RunKnown pairs r
+run-known runs pairs number r low read chained =
+    let is : get_or (runs_in runs) number no_run ≡ paired_run r = get_or-map paired_run runs number r no_run low ∙ ap paired_run (sym read) in
+    let opened : r.opened ≤ length (pairs_in pairs) = subst (λ (q : PairedRun). q.opened ≤ length (pairs_in pairs)) is (chained.opened number) in
+    let to : r.to ≤ length (pairs_in pairs) = subst (λ (q : PairedRun). q.to ≤ length (pairs_in pairs)) is (chained.closed number).1 in
+    let order : r.from ≤ r.to = subst (λ (q : PairedRun). q.from ≤ q.to) is (chained.closed number).0 in
+    record { opened = omega (arith, opened, length-pairs pairs); order = order; to = omega (arith, to, length-pairs pairs) }
+
+pub run-written : (pairs first second : List made.Pair) (number : ℕ) (r : held.Run) (html ended left new : List ℕ) → first ≡ pairs → second ≡ pairs
+    → Adds Tags html (ends_between (pairs_in first) r.from r.to) ended → left ≡ ended ++ replicate r.run.left (byte_of r.run.marker) → Adds Tags left (starts (pairs_in second) r.opened) new
+    → Adds Tags html (run_events (pairs_in pairs) number (paired_run r)) new
+unfolding write_all
+run-written pairs first second number r html ended left new same again ends rest opened =
+    let list = pairs_in pairs in
+    write-append (page html Tags) (ends_between list r.from r.to) (Rest number (run_of r.run) ∷ starts list r.opened)
+    ∙ ap (λ p. write_all p (Rest number (run_of r.run) ∷ starts list r.opened)) (ap (λ ps. write_all (page html Tags) (ends_between (pairs_in ps) r.from r.to)) (sym same) ∙ ends)
+    ∙ ap (λ t. write_all (page (ended ++ t) Tags) (starts list r.opened)) (run-html r.run.marker r.run.left)
+    ∙ ap (λ t. write_all (page t Tags) (starts list r.opened)) (sym rest)
+    ∙ ap (λ ps. write_all (page left Tags) (starts (pairs_in ps) r.opened)) (sym again) ∙ opened

@@ -1,0 +1,15 @@
+use Rattle.std.proofs.Common.{◌+◌}
+use Rattle.cm_inline.specs.steps.pairing.Parts.{ends_between}
+use Rattle.cm_inline.specs.steps.Building.{built_in}
+use Rattle.cm_inline.specs.steps.Runs.{pairs_in}
+use Rattle.cm_inline.proofs.lemmas.BuildLemmas.{end-built, none-built}
+use Rattle.cm_inline.proofs.lemmas.TagLemmas.{ends-next, ends-last}
+use Rattle.cm_inline.proofs.made.Made.close_pairs.Goals as goal
+
+pub loop-at-preserved : goal.loop-at-preserved
+loop-at-preserved c =
+    let pairs = c.args.pairs.now in
+    end-built (built_in c.loop-at.self) _ _ _ _ (ends_between (pairs_in pairs) (c.loop-at.at + 1) c.args.to) c.in_ok-close_emphasis.ensures (ends-next pairs c.loop-at.at c.args.to _ c.loop-at-test.true c.requires) c.loop-at.invariant
+
+pub returns : goal.returns
+returns c = none-built (built_in c.loop-at.self) _ _ (ends-last (pairs_in c.args.pairs.now) c.loop-at.at c.args.to c.loop-at-test.false) c.loop-at.invariant

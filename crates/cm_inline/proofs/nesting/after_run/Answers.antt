@@ -1,0 +1,41 @@
+use Rattle.std.proofs.Common.{◌^◌, length, ap, subst, ◌∙◌, sym, arith}
+use Rattle.cm_inline.specs.steps.pairing.Parts.{starts}
+use Rattle.cm_inline.specs.steps.Nesting.{rise_all, CanRiseAll}
+use Rattle.cm_inline.specs.steps.Runs.{pairs_in}
+use Rattle.cm_inline.proofs.lemmas.NestingLemmas.{run-rises-at}
+use Rattle.cm_inline.proofs.lemmas.RunLemmas.{run-known}
+use Rattle.cm_inline.proofs.nesting.after_run.Goals as goal
+
+pub overflow_sub-run : goal.overflow_sub-run
+overflow_sub-run c =
+    let runs = c.args.runs.now in
+    (run-known runs.runs.items runs.pairs.items c.args.number c.index-run.result.now c.requires.number c.index-run.ensures c.requires.chained).order
+
+pub end-level-requires : goal.end-level-requires
+end-level-requires c =
+    let runs = c.args.runs.now in
+    let rises = run-rises-at (2 ^ 64) c.args.level runs.runs.items runs.pairs.items c.args.number c.index-run.result.now c.requires.number c.index-run.ensures c.requires.chained c.requires.rises in
+    rises.holds
+
+pub after_starts-requires-clause-opened : goal.after_starts-requires-clause-opened
+after_starts-requires-clause-opened c =
+    let runs = c.args.runs.now in
+    let known = run-known runs.runs.items runs.pairs.items c.args.number c.index-run.result.now c.requires.number c.index-run.ensures c.requires.chained in
+    omega (arith, known.opened, ap length c.as_slice.ensures.value)
+
+pub after_starts-requires-clause-rises : goal.after_starts-requires-clause-rises
+after_starts-requires-clause-rises c =
+    let runs = c.args.runs.now in
+    let run = c.index-run.result.now in
+    let rises = run-rises-at (2 ^ 64) c.args.level runs.runs.items runs.pairs.items c.args.number run c.requires.number c.index-run.ensures c.requires.chained c.requires.rises in
+    subst (λ ps. CanRiseAll (2 ^ 64) c.end-level.result (starts (pairs_in ps) run.opened)) (sym c.as_slice.ensures.value)
+    (subst (λ l. CanRiseAll (2 ^ 64) l (starts (pairs_in runs.pairs.items) run.opened)) (sym c.end-level.ensures) rises.starts_rise)
+
+pub returns : goal.returns
+returns c =
+    let runs = c.args.runs.now in
+    let run = c.index-run.result.now in
+    let rises = run-rises-at (2 ^ 64) c.args.level runs.runs.items runs.pairs.items c.args.number run c.requires.number c.index-run.ensures c.requires.chained c.requires.rises in
+    c.after_starts.ensures ∙ ap (λ ps. rise_all c.end-level.result (starts (pairs_in ps) run.opened)) c.as_slice.ensures.value
+    ∙ ap (λ l. rise_all l (starts (pairs_in runs.pairs.items) run.opened)) c.end-level.ensures
+    ∙ sym rises.is

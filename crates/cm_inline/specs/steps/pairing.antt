@@ -1,0 +1,10 @@
+pub mod ClosingRuns
+pub mod Events
+pub mod Paired
+pub mod Parts
+pub mod Readings
+pub mod Segments
+pub mod Stacks
+pub mod WaitingOpeners
+pub mod Passes
+pub mod States
