@@ -83,7 +83,7 @@ pub struct Counted {
 
 impl Counted {
     pub fn new(pieces: Vec<Vec<u8>>, fails: bool) -> Counted
-        ensures { ⟦<Counted as Source>⟧.failed result ≡ 0 }
+        ensures { (⟦<Counted as Source>⟧.seen result).failed ≡ 0 }
     {
         Counted {
             source: Pieces::new(pieces, fails),
@@ -97,9 +97,7 @@ impl Counted {
 }
 
 impl Source for Counted {
-    ghost remaining = { λ c. ⟦<Pieces as Source>⟧.remaining c.source };
-
-    ghost failed = { λ c. ⟦<Pieces as Source>⟧.failed c.source };
+    ghost seen = { λ c. ⟦<Pieces as Source>⟧.seen c.source };
 
     fn read(&mut self, buf: &mut [u8]) -> Result<usize, DeviceFailed> {
         self.reads = self.reads.saturating_add(1);

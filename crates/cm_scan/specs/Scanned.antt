@@ -1,6 +1,8 @@
 -- How the result of a scanner is compared with the definitions: what it read, and what is left after that.
-use Rattle.std.specs.Prelude.{List, drop, option_map, ℕ, Option, Some, None, Bool, if◌then◌else◌, ◌++◌, codes}
+use Rattle.std.specs.Prelude.{◌≡◌, ◌+◌, List, drop, length, option_map, ℕ, Option, Some, None, Bool, if◌then◌else◌, ◌++◌, codes}
 use Rattle.std.specs.Borrow.{Bor}
+use Rattle.std.specs.List.{slice_range}
+use Rattle.std.specs.Str.{IsCharBoundary}
 use Rattle.cm_scan.specs.inlines.Links.{Reading, LinkDefinition}
 use Rattle.cm_scan.specs.spans.Autolinks.{Autolink}
 use Rattle.cm_scan.specs.spans.Angles.{before}
@@ -13,6 +15,12 @@ ending (Some x) end = Some (x, end)
 -- the result of a scanner: the part that it read, and what is left after the place where it ended
 abbrev pub reading_of : List ℕ → Option (Bor (List ℕ) × ℕ) → Option Reading
 reading_of text read = option_map (λ r. record { text = r.0.now; rest = drop r.1 text }) read
+
+-- a part is at a place of a text, and its ends part characters
+pub record IsAt (text : List ℕ) (place : ℕ) (part : List ℕ) : Type 0 where
+  pub start : IsCharBoundary text place
+  pub end : IsCharBoundary text (place + length part)
+  pub is : slice_range text place (place + length part) ≡ part
 
 -- a definition with these parts
 abbrev pub definition_with : List ℕ → List ℕ → List ℕ → List ℕ → LinkDefinition

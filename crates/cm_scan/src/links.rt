@@ -10,7 +10,8 @@ ghost use Rattle.cm_scan.specs.inlines.Links.{escapes_next, keep_if, up_to_closi
 ghost use Rattle.cm_scan.specs.inlines.Links.{label, destination, title};
 ghost use Rattle.cm_scan.specs.inlines.Links.{bare_run, is_filled, opened_by};
 ghost use Rattle.cm_scan.specs.inlines.Links.{titled, untitled, link_definition};
-ghost use Rattle.cm_scan.specs.Scanned.{reading_of, definition_with};
+ghost use Rattle.cm_text.specs.Bytes.{less_than};
+ghost use Rattle.cm_scan.specs.Scanned.{reading_of, definition_with, IsAt};
 ghost use Rattle.cm_scan.specs.steps.LinkSteps.{closed_at, ended_at, title_end, ends_bare};
 ghost use Rattle.cm_scan.specs.steps.LinkSteps.{begins_character, is_barred, fits, blank_follows};
 ghost use Rattle.cm_scan.specs.steps.LinkSteps.{is_plain, is_plain_in_run, is_refused};
@@ -58,6 +59,8 @@ pub fn destination<'a>(text: &'a str, at: usize) -> Option<(&'a str, usize)>
     ensures read { reading_of text.now result ≡ destination (drop at text.now) }
     ensures utf8 { IfSome result (λ read. IsUtf8 read.0.now) }
     ensures boundary { IfSome result (λ read. IsCharBoundary text.now read.1) }
+    ensures place { IfSome result (λ read.
+        IsAt text.now (if begins_with less_than (drop at text.now) then at + 1 else at) read.0.now) }
 {
     if !is_next(text.as_bytes(), at, b'<') {
         return bare(text, at);
@@ -82,6 +85,7 @@ pub fn title<'a>(text: &'a str, at: usize) -> Option<(&'a str, usize)>
     ensures read { reading_of text.now result ≡ title (drop at text.now) }
     ensures utf8 { IfSome result (λ read. IsUtf8 read.0.now) }
     ensures boundary { IfSome result (λ read. IsCharBoundary text.now read.1) }
+    ensures place { IfSome result (λ read. IsAt text.now (at + 1) read.0.now) }
 {
     let open = *text.as_bytes().get(at)?;
     let bounds = Bounds {
@@ -192,6 +196,7 @@ fn enclosed<'a>(text: &'a str, at: usize, bounds: Bounds) -> Option<(&'a str, us
         (is_barred bounds.open bounds.one_line) false (drop (suc at) text.now)) }
     ensures utf8 { IfSome result (λ read. IsUtf8 read.0.now) }
     ensures boundary { IfSome result (λ read. IsCharBoundary text.now read.1) }
+    ensures place { IfSome result (λ read. IsAt text.now (at + 1) read.0.now) }
 {
     let end = closed(text.as_bytes(), at + 1, bounds)?;
     Some((&text[at + 1..end], end + 1))
@@ -283,6 +288,7 @@ fn bare<'a>(text: &'a str, at: usize) -> Option<(&'a str, usize)>
     ensures read { reading_of text.now result ≡ keep_if is_filled (bare_run 0 false (drop at text.now)) }
     ensures utf8 { IfSome result (λ read. IsUtf8 read.0.now) }
     ensures boundary { IfSome result (λ read. IsCharBoundary text.now read.1) }
+    ensures place { IfSome result (λ read. IsAt text.now at read.0.now) }
 {
     let end = bare_end(text.as_bytes(), at)?;
     if end == at {

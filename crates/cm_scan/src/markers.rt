@@ -5,7 +5,7 @@ ghost use Rattle.std.specs.List.{fold};
 ghost use Rattle.std.specs.Str.{IsCharBoundary};
 ghost use Rattle.cm_scan.specs.Words.{is_digit, front_of, skip};
 ghost use Rattle.cm_scan.specs.blocks.LineForms.{item_marker, is_same_kind, bullet_kind};
-ghost use Rattle.cm_scan.specs.blocks.LineForms.{ordered_kind, decimal_value};
+ghost use Rattle.cm_scan.specs.blocks.LineForms.{ordered_kind, decimal_value, most_digits};
 ghost use Rattle.cm_scan.specs.steps.LineSteps.{with_digit};
 
 use crate::words::{bytes_from, is_at_gap, is_digit};
@@ -54,8 +54,11 @@ fn kind_of(digits: usize, number: u32, b: u8) -> Option<ListKind>
     }
 }
 
-/// The number at a place, of up to nine digits, and the place after it: that place itself if no digit is
-/// there.
+/// The most digits that the number of a list has (5.2 List items). `u32` has room for every such number.
+pub const MOST_DIGITS: u32 = 9;
+
+/// The number at a place, of up to this number of digits, and the place after it: that place itself if no
+/// digit is there.
 fn number_at(text: &str, at: usize) -> (u32, usize)
     requires { at ≤ length text.now }
     ensures begin { at ≤ result.1 }
@@ -65,13 +68,13 @@ fn number_at(text: &str, at: usize) -> (u32, usize)
     ensures value { fold with_digit result.0 (front_of is_digit (drop result.1 text.now))
         ≡ decimal_value (front_of is_digit (drop at text.now)) }
     ensures left { skip is_digit (drop result.1 text.now) ≡ skip is_digit (drop at text.now) }
-    ensures few { result.1 - at ≤ 9 }
-    ensures whole { result.1 - at < 9 → front_of is_digit (drop result.1 text.now) ≡ [] }
+    ensures few { result.1 - at ≤ most_digits }
+    ensures whole { result.1 - at < most_digits → front_of is_digit (drop result.1 text.now) ≡ [] }
 {
     let bytes = text.as_bytes();
     let mut number = 0;
     let mut end = at;
-    while end < bytes.len() && end - at < 9 && is_digit(bytes[end]) {
+    while end < bytes.len() && end - at < MOST_DIGITS as usize && is_digit(bytes[end]) {
         number = number * 10 + u32::from(bytes[end] - b'0');
         end += 1;
     }

@@ -13,7 +13,7 @@ use Rattle.cm_tree.specs.declared.tree.ListKind.{ListKind}
 use Rattle.cm_tree.specs.declared.tree.ListKind.TheVariants.{Dot, Paren}
 use Rattle.cm_scan.specs.Words.{is_empty, begins_with, same_bytes, ◌<|>◌}
 use Rattle.cm_scan.specs.spans.Autolinks.{ends_with}
-use Rattle.cm_scan.specs.blocks.LineForms.{is_same_kind}
+use Rattle.cm_scan.specs.blocks.LineForms.{is_same_kind, most_digits}
 use Rattle.cm_scan.specs.blocks.HtmlBlocks.{html_start, is_html_end, ends_at_blank_line}
 use Rattle.cm_scan.specs.blocks.Parts.{Parts, none, leaf, html}
 use Rattle.cm_scan.specs.blocks.Blocks.{parts_of}
@@ -65,10 +65,10 @@ abbrev pub is_as_said : (tight : Bool) → List (List BlockFace) → Bool
 is_as_said true items = list_all is_tight_item items
 is_as_said false items = has_two items || list_any has_two items
 
--- an ordered list that starts at 10^9 or higher
+-- an ordered list that starts with a number of too many digits
 abbrev pub begins_too_high : ListKind → Bool
-begins_too_high (Dot start) = nat_le (10 ^ 9) start
-begins_too_high (Paren start) = nat_le (10 ^ 9) start
+begins_too_high (Dot start) = nat_le (10 ^ most_digits) start
+begins_too_high (Paren start) = nat_le (10 ^ most_digits) start
 begins_too_high kind = false
 
 -- The text of a code block is empty or ends with a line feed, and has no carriage return.
@@ -125,7 +125,7 @@ abbrev pub is_behind_same : ListKind → Option BlockFace → Bool
 is_behind_same kind (Some (ListFace other filled)) = is_same_kind kind other
 is_behind_same kind _ = false
 
--- A list is refused if it has no items or starts at 10^9 or higher, if it directly follows a list of its kind, if an item
+-- A list is refused if it has no items or starts with a number of too many digits, if it directly follows a list of its kind, if an item
 -- starts with a list, or if it isn't as tight or loose as it says.
 abbrev pub list_reasons : ListKind → (tight : Bool) → List (List BlockFace) → Option BlockFace → List (Bool × Why)
 list_reasons kind tight items before =

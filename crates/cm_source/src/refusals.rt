@@ -14,12 +14,10 @@ ghost use Rattle.cm_source.specs.Refusals.{list_reasons, is_filled, refusal_of_a
 ghost use Rattle.cm_source.specs.steps.BlockFaces.{shown, seen, is_paragraph, faces_of_items};
 
 use crate::html_alone::is_html_block;
-use crate::inline_refusals::{
-    check_in_heading, check_in_paragraph, has_nul, has_nul_in, refuse_if,
-};
+use crate::inline_refusals::{check_in_heading, check_in_paragraph, has_nul, has_nul_in};
 use crate::texts::is_code_text;
-use crate::why::Why;
-use cm_scan::is_same_kind;
+use crate::why::{Why, refuse_if};
+use cm_scan::{MOST_DIGITS, is_same_kind};
 use cm_text::Rules;
 use cm_tree::{Block, Inline, Items, ListKind};
 
@@ -137,13 +135,12 @@ fn is_as_said(tight: bool, items: &[Items<Block>]) -> bool
     items.len() > 1 || any_has_two(items)
 }
 
-/// Whether an ordered list starts at 10^9 or later.
+/// Whether an ordered list starts with a number that has too many digits.
 fn begins_too_high(kind: ListKind) -> bool
     ensures { result ≡ begins_too_high kind }
 {
     match kind {
-        ListKind::Dot { start } => start >= 1_000_000_000,
-        ListKind::Paren { start } => start >= 1_000_000_000,
+        ListKind::Dot { start } | ListKind::Paren { start } => start >= 10_u32.pow(MOST_DIGITS),
         _ => false,
     }
 }
@@ -180,7 +177,7 @@ fn any_begins_with_list(items: &[Items<Block>]) -> bool
     false
 }
 
-/// Whether a list has no items, or starts at 10^9 or later.
+/// Whether a list has no items, or starts with a number that has too many digits.
 fn is_malformed(kind: ListKind, items: &[Items<Block>]) -> bool
     ensures { (rules : text_rules.Rules) → result
         ≡ (not (list_any (λ item. true) (faces_of_items rules items.now)) || begins_too_high kind) }

@@ -1,7 +1,9 @@
 //! Why a tree can't be spelled.
 //!
 //! The texts of the reasons are hand-written, because no contract says what a derived `Display` writes.
-ghost use Rattle.std.specs.Prelude.{◌≡◌, ◌≤◌, Some, length};
+ghost use Rattle.std.specs.Prelude.{◌≡◌, ◌≤◌, [], ◌∷◌, Some, length};
+ghost use Rattle.cm_source.specs.Answers.{ok_unless};
+ghost use Rattle.cm_source.specs.InlineRefusals.{refused};
 ghost use Rattle.cm_source.specs.Reasons.{reason_text};
 
 use std::error::Error;
@@ -15,8 +17,8 @@ pub enum Why {
     Definition,
     /// U+0000 in a string.
     Nul,
-    /// A heading's level that isn't from 1 to 6, a list without items, an ordered list that starts at 10^9 or
-    /// later, a paragraph without inlines.
+    /// A heading's level that isn't from 1 to 6, a list without items, an ordered list that starts with a
+    /// number of more than nine digits, a paragraph without inlines.
     Shape,
     /// An empty text, or a text right after a text.
     Text,
@@ -92,3 +94,10 @@ impl fmt::Display for Why {
 }
 
 impl Error for Why {}
+
+/// Refuses for a reason where it holds.
+pub(crate) fn refuse_if(holds: bool, why: Why) -> Result<(), Why>
+    ensures { result ≡ ok_unless (refused ((holds, why) ∷ [])) }
+{
+    if holds { Err(why) } else { Ok(()) }
+}

@@ -2,6 +2,7 @@
 use Rattle.std.specs.Prelude.{◌≡◌, ℕ, ◌+◌, List, Option, Some, None, Result, Ok, Err, ◌⊎◌, String, option_map, string_bytes}
 use Rattle.std.specs.Io.KnownBytes.{IsAtEnd}
 use Rattle.std.specs.declared.alloc.Global.{Global}
+use Rattle.cm_text.specs.DeviceViews.{SourceView}
 use Rattle.cm_text.specs.Limits.{LimitsView}
 use Rattle.cm_text.specs.Lines.{text_of}
 use Rattle.cm_text.specs.Faults.{settled_fault, text_fault}
@@ -11,11 +12,6 @@ use Rattle.cm_tool.specs.declared.fault.Fault.TheVariants.{NotUtf8, TooLong, Blo
 use Rattle.cm_tool.specs.Document.{doc_of}
 use Rattle.cm_tool.specs.ToldFaults.{told}
 use Rattle.cm_tool.specs.Faults.{fault_of, settled_fault_of}
-
--- a source: the bytes still to come, if they are known, and the number of failed reads
-pub record SourceView : Type 0 where
-  pub remaining : Option (List ℕ)
-  pub failed : ℕ
 
 -- the source has been read to its end without a failed read, and what was read has no fault
 pub record IsWhole (fault : Option Fault) (old new : SourceView) : Type 0 where

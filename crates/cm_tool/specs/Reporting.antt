@@ -1,13 +1,14 @@
 -- The report of a source's examples, as it is written.
 use Rattle.std.specs.Prelude.{◌≡◌, ℕ, List, ◌++◌, Result, Ok, Err, codes, flat_map, ◌⊎◌}
 use Rattle.std.specs.Fmt.{decimal}
+use Rattle.cm_text.specs.DeviceViews.{SinkView, SourceView}
 use Rattle.cm_text.specs.Limits.{LimitsView}
 use Rattle.cm_text.specs.Lines.{text_of}
-use Rattle.cm_text.specs.Writing.{SinkView, IsUnwritten, Wrote, WroteFront}
+use Rattle.cm_text.specs.Writing.{IsUnwritten, Wrote, WroteFront}
 use Rattle.cm_tool.specs.declared.fault.Fault.{Fault}
 use Rattle.cm_tool.specs.declared.fault.Fault.TheVariants.{NoMemory, WriteFailed, ExampleDiffers}
 use Rattle.cm_tool.specs.ExampleFiles.{DifferenceView, ReportView, report_on, verdict_of}
-use Rattle.cm_tool.specs.Reading.{SourceView, IsWhole, RefusesBy, fault_of_text, settled_of_text}
+use Rattle.cm_tool.specs.Reading.{IsWhole, RefusesBy, fault_of_text, settled_of_text}
 
 -- the lines about an example that differs
 abbrev pub difference_text : DifferenceView → List ℕ

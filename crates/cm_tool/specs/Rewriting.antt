@@ -1,9 +1,10 @@
 -- What rewriting a text returns, and what has been written then.
 use Rattle.std.specs.Prelude.{◌≡◌, ℕ, ◌≤◌, List, length, Some, None, Result, Ok, Err, ⊤, String, string_bytes}
 use Rattle.std.specs.declared.alloc.Global.{Global}
+use Rattle.cm_text.specs.DeviceViews.{SinkView, SourceView}
 use Rattle.cm_text.specs.Rules.{Rules}
 use Rattle.cm_text.specs.Limits.{LimitsView}
-use Rattle.cm_text.specs.Writing.{SinkView, IsUnwritten}
+use Rattle.cm_text.specs.Writing.{IsUnwritten}
 use Rattle.cm_tree.specs.declared.tree.Block.{Block}
 use Rattle.cm_source.specs.Definitions.{without_definitions}
 use Rattle.cm_source.specs.Refusals.{refusal_of, IsSpellable}
@@ -13,7 +14,7 @@ use Rattle.cm_tool.specs.declared.fault.Fault.TheVariants.{Unspellable, WriteFai
 use Rattle.cm_scan.specs.Documents.{tree_of}
 use Rattle.cm_tool.specs.Faults.{fault_of}
 use Rattle.cm_tool.specs.Parsing.{TellsFault}
-use Rattle.cm_tool.specs.Reading.{SourceView, ReadWhole}
+use Rattle.cm_tool.specs.Reading.{ReadWhole}
 use Rattle.cm_tool.specs.Writing.{Writes}
 
 -- the tree of these bytes without its link reference definitions

@@ -1,8 +1,8 @@
 -- What running a task, or reporting why there is none, writes and returns.
 use Rattle.std.specs.Prelude.{◌≡◌, ℕ, zero, List, ◌++◌, Result, Ok, Err, codes, string_bytes, ◌⊎◌}
-use Rattle.cm_tool.specs.Reading.{SourceView}
+use Rattle.cm_text.specs.DeviceViews.{SinkView, SourceView}
 use Rattle.cm_text.specs.Limits.{LimitsView}
-use Rattle.cm_text.specs.Writing.{SinkView, IsUnwritten, Wrote, WroteFront}
+use Rattle.cm_text.specs.Writing.{IsUnwritten, Wrote, WroteFront}
 use Rattle.cm_tool.specs.Writing.{Converts, Lists, WritesJson}
 use Rattle.cm_tool.specs.Reporting.{WritesReport}
 use Rattle.cm_tool.specs.Rewriting.{Rewrites}

@@ -1,8 +1,9 @@
 -- What calls that read a text and write an output of it return, and what has been written then.
 use Rattle.std.specs.Prelude.{◌≡◌, ℕ, List, ◌++◌, codes, length, Result, Ok, Err, ◌⊎◌, ⊤}
+use Rattle.cm_text.specs.DeviceViews.{SinkView, SourceView}
 use Rattle.cm_text.specs.Rules.{Rules}
 use Rattle.cm_text.specs.Limits.{LimitsView}
-use Rattle.cm_text.specs.Writing.{SinkView, IsUnwritten, Wrote, WroteBeginning, WroteFront}
+use Rattle.cm_text.specs.Writing.{IsUnwritten, Wrote, WroteBeginning, WroteFront}
 use Rattle.cm_html.specs.Html.{html_of}
 use Rattle.cm_html.specs.Listing.{listing_of}
 use Rattle.cm_json.specs.Mdast.{json_of, value_of}
@@ -11,7 +12,7 @@ use Rattle.cm_tool.specs.declared.fault.Fault.{Fault}
 use Rattle.cm_tool.specs.declared.fault.Fault.TheVariants.{NoMemory, WriteFailed}
 use Rattle.cm_tool.specs.Document.{owners_of_bytes}
 use Rattle.cm_scan.specs.Documents.{tree_of}
-use Rattle.cm_tool.specs.Reading.{SourceView, ReadWhole, Refuses}
+use Rattle.cm_tool.specs.Reading.{ReadWhole, Refuses}
 
 -- the HTML of the text of these bytes
 abbrev pub converted : Rules → List ℕ → List ℕ

@@ -33,6 +33,7 @@
 mod example_files;
 mod fault;
 pub mod laws;
+mod outlines;
 mod outputs;
 mod reading;
 mod running;

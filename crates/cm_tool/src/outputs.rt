@@ -1,91 +1,107 @@
-//! Outputs that are made of an outline: the document, its HTML, its plain source; and the calls that read a
-//! source and write one of them to a sink.
+//! The calls that read a source to its end and write one output of its document to a sink.
 //!
-//! Each output is written with `cm_text::write_all`, and one definition, `Writes`, says what such a call
-//! returns.
-ghost use Rattle.std.specs.Prelude.{◌≡◌, ℕ, List};
-ghost use Rattle.cm_tool.specs.Parsing.{Finishes, Makes};
-ghost use Rattle.cm_tool.specs.Rewriting.{kept_tree};
-ghost use Rattle.cm_tool.specs.Writing.{converted};
-ghost use Rattle.cm_tool.specs.steps.ReadingSteps.{IsOutline};
-ghost use Rattle.cm_tool.specs.steps.PlainSources.{Spelled};
-
-mod conversion;
-mod document;
-mod html;
-mod json;
-mod leaf_walk;
-mod listing;
-mod plain_source;
-mod rewriting;
+//! Nothing is written before the output is whole: the last leaf may nest too deep. Each output is written
+//! with `cm_text::write_all`, and one definition, `Writes`, says what such a call returns.
+ghost use Rattle.std.specs.Prelude.{◌≡◌, ℕ, ◌-◌, ◌^◌, ◌<◌, List};
+ghost use Rattle.std.specs.Io.KnownBytes.{Consumes};
+ghost use Rattle.cm_tool.specs.Rewriting.{Rewrites};
+ghost use Rattle.cm_tool.specs.Writing.{Converts, Lists, WritesJson};
 
 use crate::fault::Fault;
-use cm_block::Outline;
-use cm_html::Pages;
-use cm_source::Why;
-use cm_text::Limits;
-use cm_tree::Doc;
-pub use conversion::convert;
-use document::read_leaves;
-use html::leaves_html;
-pub(crate) use json::write_json;
-pub(crate) use listing::list;
-use plain_source::leaves_plain_source;
-pub use rewriting::rewrite;
+use crate::outlines::{
+    html_of_outline, json_of_outline, listing_of_outline, plain_source_of_outline,
+};
+use crate::reading::outline_of;
+use cm_text::{Limits, Sink, Source, write_all};
 use std::alloc::Global;
 
-/// The document of an outline.
-pub(crate) fn doc_of_outline(alloc: Global, limits: Limits, outline: Outline) -> Result<Doc, Fault>
-    ensures { (bytes : List ℕ) → IsOutline limits bytes outline → Finishes result limits bytes }
+/// Writes the HTML of the source's text, and returns its length in bytes.
+///
+/// Nothing is written before the whole text has been read. A fault that the bytes settle ends the reading: no
+/// read is made after it. On `Fault::WriteFailed` the first `written` bytes of the HTML were written, on
+/// `Fault::NoMemory` a prefix of it, and on any other fault nothing.
+pub fn convert<R: Source, W: Sink>(
+    alloc: Global,
+    source: &mut R,
+    sink: &mut W,
+    limits: Limits,
+) -> Result<usize, Fault>
+    requires reads { (R.seen source.old).failed < 2 ^ 64 - 1 }
+    requires writes { (W.seen sink.old).failed < 2 ^ 64 - 1 }
+    ensures { (bytes : List ℕ) × Consumes (R.seen source.old).remaining (R.seen source.new).remaining bytes
+        × Converts result limits bytes (R.seen source.old) (R.seen source.new)
+        (W.seen sink.old) (W.seen sink.new) }
 {
-    let Outline {
-        blocks,
-        owners,
-        definitions,
-        ..
-    } = outline;
-    let blocks = read_leaves(alloc, limits, definitions, blocks)?;
-    let owners = owners.to_items(alloc)?;
-    Ok(Doc { blocks, owners })
+    let outline = outline_of(alloc, source, limits)?;
+    let html = html_of_outline(alloc, limits, outline, usize::MAX)?;
+    Ok(html.write(sink)?)
 }
 
-/// The HTML of an outline's document in pages. The first page has room for this number of bytes, up to a
-/// whole page.
-pub(crate) fn html_of_outline(
+/// Writes the listing of the source's tree and of the owners of its lines, and returns its length in bytes.
+///
+/// Nothing is written before the listing is complete. A fault that the bytes settle ends the reading: no read
+/// is made after it. On `Fault::WriteFailed` the first `written` bytes of the listing were written, and on
+/// any other fault nothing.
+pub(crate) fn list<R: Source, W: Sink>(
     alloc: Global,
+    source: &mut R,
+    sink: &mut W,
     limits: Limits,
-    outline: Outline,
-    room: usize,
-) -> Result<Pages, Fault>
-    ensures { (bytes : List ℕ) → IsOutline limits bytes outline
-        → Makes (λ pages. pages ≡ converted limits.rules bytes) result limits bytes }
+) -> Result<usize, Fault>
+    requires reads { (R.seen source.old).failed < 2 ^ 64 - 1 }
+    requires writes { (W.seen sink.old).failed < 2 ^ 64 - 1 }
+    ensures { (bytes : List ℕ) × Consumes (R.seen source.old).remaining (R.seen source.new).remaining bytes
+        × Lists result limits bytes (R.seen source.old) (R.seen source.new)
+        (W.seen sink.old) (W.seen sink.new) }
 {
-    let Outline {
-        blocks,
-        owners,
-        definitions,
-        ..
-    } = outline;
-    // The HTML is written to the memory of the owners, which it doesn't show.
-    drop(owners);
-    leaves_html(alloc, limits, definitions, blocks, room)
+    let outline = outline_of(alloc, source, limits)?;
+    let listing = listing_of_outline(alloc, limits, outline)?;
+    Ok(listing.write(sink)?)
 }
 
-/// The plain source of an outline's document without its definitions, or why it can't be spelled.
-pub(crate) fn plain_source_of_outline(
+/// Writes the source's tree as JSON, followed by a line feed, and returns its length in bytes.
+///
+/// Nothing is written before the JSON is complete. A fault that the bytes settle ends the reading: no
+/// read is made after it. On `Fault::WriteFailed` the first `written` bytes of the line were written, and
+/// on any other fault nothing.
+pub(crate) fn write_json<R: Source, W: Sink>(
     alloc: Global,
+    source: &mut R,
+    sink: &mut W,
     limits: Limits,
-    outline: Outline,
-) -> Result<Result<String, Why>, Fault>
-    ensures { (bytes : List ℕ) → IsOutline limits bytes outline
-        → Makes (Spelled limits.rules (kept_tree limits.rules bytes)) result limits bytes }
+) -> Result<usize, Fault>
+    requires reads { (R.seen source.old).failed < 2 ^ 64 - 1 }
+    requires writes { (W.seen sink.old).failed < 2 ^ 64 - 1 }
+    ensures { (bytes : List ℕ) × Consumes (R.seen source.old).remaining (R.seen source.new).remaining bytes
+        × WritesJson result limits bytes (R.seen source.old) (R.seen source.new)
+        (W.seen sink.old) (W.seen sink.new) }
 {
-    let Outline {
-        blocks,
-        owners,
-        definitions,
-        ..
-    } = outline;
-    drop(owners);
-    leaves_plain_source(alloc, limits, definitions, blocks)
+    let outline = outline_of(alloc, source, limits)?;
+    let mut json = json_of_outline(alloc, limits, outline)?;
+    json.push_str("\n")?;
+    Ok(json.write(sink)?)
+}
+
+/// Writes plain source of the source's tree without its link reference definitions, and returns its length in
+/// bytes.
+///
+/// Nothing is written before the whole source is spelled. A fault that the bytes settle ends the reading: no
+/// read is made after it. On `Fault::WriteFailed` the first `written` bytes of the source were written, and
+/// on any other fault nothing.
+pub fn rewrite<R: Source, W: Sink>(
+    alloc: Global,
+    source: &mut R,
+    sink: &mut W,
+    limits: Limits,
+) -> Result<usize, Fault>
+    requires reads { (R.seen source.old).failed < 2 ^ 64 - 1 }
+    requires writes { (W.seen sink.old).failed < 2 ^ 64 - 1 }
+    ensures { (bytes : List ℕ) × Consumes (R.seen source.old).remaining (R.seen source.new).remaining bytes
+        × Rewrites result limits bytes (R.seen source.old) (R.seen source.new)
+        (W.seen sink.old) (W.seen sink.new) }
+{
+    let outline = outline_of(alloc, source, limits)?;
+    let text = plain_source_of_outline(alloc, limits, outline)??;
+    write_all(sink, text.as_bytes())?;
+    Ok(text.len())
 }

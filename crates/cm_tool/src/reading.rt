@@ -11,7 +11,7 @@ mod taking_in;
 mod texts;
 
 use crate::fault::Fault;
-use crate::outputs::doc_of_outline;
+use crate::outlines::doc_of_outline;
 use cm_block::Outline;
 use cm_text::{Limits, Source};
 use cm_tree::Doc;
@@ -34,11 +34,9 @@ pub(crate) fn outline_of<R: Source>(
     source: &mut R,
     limits: Limits,
 ) -> Result<Outline, Fault>
-    requires { R.failed source.old < 2 ^ 64 - 1 }
-    ensures { (bytes : List ℕ) × Consumes (R.remaining source.old) (R.remaining source.new) bytes
-        × ReadsOutline result limits bytes
-        (record { remaining = R.remaining source.old; failed = R.failed source.old })
-        (record { remaining = R.remaining source.new; failed = R.failed source.new }) }
+    requires { (R.seen source.old).failed < 2 ^ 64 - 1 }
+    ensures { (bytes : List ℕ) × Consumes (R.seen source.old).remaining (R.seen source.new).remaining bytes
+        × ReadsOutline result limits bytes (R.seen source.old) (R.seen source.new) }
 {
     let mut buffer = zeros(alloc, SLICE)?;
     let mut parser = Parser::new(alloc, limits);
@@ -50,11 +48,9 @@ pub(crate) fn outline_of<R: Source>(
 ///
 /// A fault that the bytes settle ends the reading: no read is made after it. So does a failed read.
 pub fn read<R: Source>(alloc: Global, source: &mut R, limits: Limits) -> Result<Doc, Fault>
-    requires { R.failed source.old < 2 ^ 64 - 1 }
-    ensures { (bytes : List ℕ) × Consumes (R.remaining source.old) (R.remaining source.new) bytes
-        × Reads result limits bytes
-        (record { remaining = R.remaining source.old; failed = R.failed source.old })
-        (record { remaining = R.remaining source.new; failed = R.failed source.new }) }
+    requires { (R.seen source.old).failed < 2 ^ 64 - 1 }
+    ensures { (bytes : List ℕ) × Consumes (R.seen source.old).remaining (R.seen source.new).remaining bytes
+        × Reads result limits bytes (R.seen source.old) (R.seen source.new) }
 {
     let outline = outline_of(alloc, source, limits)?;
     doc_of_outline(alloc, limits, outline)

@@ -16,10 +16,8 @@ use std::alloc::{AllocError, Global};
 
 /// Writes the text, and ignores a failure.
 fn offer<E: Sink>(errors: &mut E, text: &[u8])
-    requires { E.failed errors.old < 2 ^ 64 - 1 }
-    ensures { Offered
-        (record { taken = E.taken errors.old; failed = E.failed errors.old })
-        (record { taken = E.taken errors.new; failed = E.failed errors.new })
+    requires { (E.seen errors.old).failed < 2 ^ 64 - 1 }
+    ensures { Offered (E.seen errors.old) (E.seen errors.new)
         text.now }
 {
     let _ = write_all(errors, text);
@@ -27,11 +25,9 @@ fn offer<E: Sink>(errors: &mut E, text: &[u8])
 
 /// Writes the fault's line, and returns the exit status. It ignores a failure, and takes no memory.
 fn tell_fault<E: Sink>(fault: Fault, errors: &mut E) -> u8
-    requires { E.failed errors.old < 2 ^ 64 - 1 }
+    requires { (E.seen errors.old).failed < 2 ^ 64 - 1 }
     ensures status { result ≡ 1 }
-    ensures line { OfferedLine fault
-        (record { taken = E.taken errors.old; failed = E.failed errors.old })
-        (record { taken = E.taken errors.new; failed = E.failed errors.new }) }
+    ensures line { OfferedLine fault (E.seen errors.old) (E.seen errors.new) }
 {
     offer(errors, fault.line().as_str().as_bytes());
     1
@@ -50,11 +46,9 @@ fn no_example_line() -> ArrayString<LINE>
 
 /// Reports a file of examples that has none, and returns the exit status of a job that is done.
 fn tell_done<E: Sink>(job: Job, count: usize, errors: &mut E) -> u8
-    requires { E.failed errors.old < 2 ^ 64 - 1 }
+    requires { (E.seen errors.old).failed < 2 ^ 64 - 1 }
     ensures status { result ≡ 0 }
-    ensures line { ReportsDone job count
-        (record { taken = E.taken errors.old; failed = E.failed errors.old })
-        (record { taken = E.taken errors.new; failed = E.failed errors.new }) }
+    ensures line { ReportsDone job count (E.seen errors.old) (E.seen errors.new) }
 {
     if matches!(job, Job::Examples) && count == 0 {
         offer(errors, no_example_line().as_str().as_bytes());
@@ -69,14 +63,11 @@ fn work<R: Source, W: Sink>(
     reader: &mut R,
     writer: &mut W,
 ) -> Result<usize, Fault>
-    requires reads { R.failed reader.old < 2 ^ 64 - 1 }
-    requires writes { W.failed writer.old < 2 ^ 64 - 1 }
-    ensures { (bytes : List ℕ) × Consumes (R.remaining reader.old) (R.remaining reader.new) bytes
-        × Does task.now.job result task.now.limits bytes
-        (record { remaining = R.remaining reader.old; failed = R.failed reader.old })
-        (record { remaining = R.remaining reader.new; failed = R.failed reader.new })
-        (record { taken = W.taken writer.old; failed = W.failed writer.old })
-        (record { taken = W.taken writer.new; failed = W.failed writer.new }) }
+    requires reads { (R.seen reader.old).failed < 2 ^ 64 - 1 }
+    requires writes { (W.seen writer.old).failed < 2 ^ 64 - 1 }
+    ensures { (bytes : List ℕ) × Consumes (R.seen reader.old).remaining (R.seen reader.new).remaining bytes
+        × Does task.now.job result task.now.limits bytes (R.seen reader.old) (R.seen reader.new)
+        (W.seen writer.old) (W.seen writer.new) }
 {
     match task.job {
         Job::Render => convert(alloc, reader, writer, task.limits),
@@ -96,17 +87,13 @@ pub fn run<R: Source, W: Sink, E: Sink>(
     writer: &mut W,
     errors: &mut E,
 ) -> u8
-    requires reads { R.failed reader.old < 2 ^ 64 - 1 }
-    requires writes { W.failed writer.old < 2 ^ 64 - 1 }
-    requires tells { E.failed errors.old < 2 ^ 64 - 1 }
-    ensures { (bytes : List ℕ) × Consumes (R.remaining reader.old) (R.remaining reader.new) bytes
+    requires reads { (R.seen reader.old).failed < 2 ^ 64 - 1 }
+    requires writes { (W.seen writer.old).failed < 2 ^ 64 - 1 }
+    requires tells { (E.seen errors.old).failed < 2 ^ 64 - 1 }
+    ensures { (bytes : List ℕ) × Consumes (R.seen reader.old).remaining (R.seen reader.new).remaining bytes
         × (answer : Result ℕ faults.Fault) × RunsTo answer result task.now.job task.now.limits bytes
-        (record { remaining = R.remaining reader.old; failed = R.failed reader.old })
-        (record { remaining = R.remaining reader.new; failed = R.failed reader.new })
-        (record { taken = W.taken writer.old; failed = W.failed writer.old })
-        (record { taken = W.taken writer.new; failed = W.failed writer.new })
-        (record { taken = E.taken errors.old; failed = E.failed errors.old })
-        (record { taken = E.taken errors.new; failed = E.failed errors.new }) }
+        (R.seen reader.old) (R.seen reader.new) (W.seen writer.old) (W.seen writer.new)
+        (E.seen errors.old) (E.seen errors.new) }
 {
     match work(alloc, task, reader, writer) {
         Ok(count) => tell_done(task.job, count, errors),
@@ -117,13 +104,10 @@ pub fn run<R: Source, W: Sink, E: Sink>(
 /// Reports why there is no task, and returns the exit status: 0 for help, which is written to `writer`, 2 for
 /// a wrong command line, and 1 for lack of memory or a failure of `writer`. A failure of `errors` is ignored.
 pub fn tell<W: Sink, E: Sink>(stop: &Stop, writer: &mut W, errors: &mut E) -> u8
-    requires writes { W.failed writer.old < 2 ^ 64 - 1 }
-    requires tells { E.failed errors.old < 2 ^ 64 - 1 }
-    ensures { Tells stop.now result
-        (record { taken = W.taken writer.old; failed = W.failed writer.old })
-        (record { taken = W.taken writer.new; failed = W.failed writer.new })
-        (record { taken = E.taken errors.old; failed = E.failed errors.old })
-        (record { taken = E.taken errors.new; failed = E.failed errors.new }) }
+    requires writes { (W.seen writer.old).failed < 2 ^ 64 - 1 }
+    requires tells { (E.seen errors.old).failed < 2 ^ 64 - 1 }
+    ensures { Tells stop.now result (W.seen writer.old) (W.seen writer.new)
+        (E.seen errors.old) (E.seen errors.new) }
 {
     match stop {
         Stop::Help(text) => match write_all(writer, text.as_bytes()) {
@@ -155,11 +139,10 @@ fn unopened_lines(alloc: Global, name: &str, reason: &str) -> Result<String, All
 /// Control and format characters of both are written as `\u{..}`, so they stay on one line. If memory runs
 /// out, that is reported instead. A failure of `errors` is ignored.
 pub fn tell_unopened<E: Sink>(alloc: Global, name: &str, reason: &str, errors: &mut E) -> u8
-    requires { E.failed errors.old < 2 ^ 64 - 1 }
+    requires { (E.seen errors.old).failed < 2 ^ 64 - 1 }
     ensures status { result ≡ 1 }
     ensures lines { TellsUnopened name.now reason.now
-        (record { taken = E.taken errors.old; failed = E.failed errors.old })
-        (record { taken = E.taken errors.new; failed = E.failed errors.new }) }
+        (E.seen errors.old) (E.seen errors.new) }
 {
     match unopened_lines(alloc, name, reason) {
         Ok(lines) => {

@@ -1,6 +1,8 @@
 //! A long text that links share.
 
-use cm_html::{Form, Pages, html, listing, push_link_start, write_html, write_listing};
+use cm_html::{
+    Element, Form, Pages, html, listing, push_break, push_link_start, write_html, write_listing,
+};
 use cm_text::Room;
 use cm_tree::{Block, BoxedText, Doc, Inline, Items, LinkTarget, Text};
 use std::alloc::{AllocError, Global};
@@ -81,6 +83,10 @@ fn pages(rt: HostRuntime) -> Result<(), Fail> {
     pages.push_escaped("<")?;
     pages.push_formed(Form::Escaped, &shared)?;
     pages.turn()?;
+    pages.push_str(Element::Strike.start())?;
+    pages.push_shared(Form::Escaped, &shared)?;
+    pages.push_str(Element::Strike.end())?;
+    push_break(&mut pages)?;
     let target = LinkTarget::Plain {
         dest: "\"",
         title: "",
@@ -88,6 +94,8 @@ fn pages(rt: HostRuntime) -> Result<(), Fail> {
     push_link_start(&mut pages, target)?;
     let written = pages.into_string()?;
     let title = "&quot;".repeat(alloc, LONG)?;
-    assert!(rt; written == format!(in alloc; "<&lt;{title}<a href=\"%22\">")?);
+    assert!(rt;
+        written == format!(in alloc; "<&lt;{title}<del>{title}</del><hr />\n<a href=\"%22\">")?
+    );
     Ok(())
 }

@@ -7,8 +7,8 @@ use crate::lines::line_at;
 use crate::trouble::{Trouble, wrong};
 use crate::words::{Word, number};
 use cm_text::{
-    Limits, Line, LineFeed, Rules, View, cut_at, fold_label, fold_label_or_lend, indent,
-    is_ascii_punct, is_followed, is_punct, is_punct_by, is_space, leading_spaces, next_markup,
+    Limits, Line, LineFeed, Rules, View, cut_at, fold_label, indent, is_ascii_punct, is_followed,
+    is_punct, is_punct_by, is_space, label_number, leading_spaces, next_markup, plain_label_number,
     reference_at, strip, unescape, unescape_or_lend,
 };
 use std::alloc::Global;
@@ -192,7 +192,8 @@ fn of_one_text(answer: &mut Answer, name: &str, text: &str) -> Result<bool, Trou
     let alloc = answer.alloc;
     match name {
         "fold_label" => answer.text(fold_label(alloc, text)?.as_str())?,
-        "fold_label_or_lend" => answer.text(fold_label_or_lend(alloc, text)?.as_str())?,
+        "label_number" => answer.number(label_number(text) as usize)?,
+        "plain_label_number" => answer.place(plain_label_number(text).map(|n| n as usize))?,
         "unescape" => answer.text(unescape(alloc, text)?.as_str())?,
         "unescape_or_lend" => answer.text(unescape_or_lend(alloc, text)?.as_str())?,
         "leading_spaces" => answer.number(leading_spaces(text))?,

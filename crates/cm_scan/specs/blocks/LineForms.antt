@@ -98,9 +98,13 @@ bullet_marker (b ∷ bs) = marker_at_gap (bullet_kind b) 0 bs
 abbrev pub decimal_value : List ℕ → ℕ
 decimal_value digits = fold (λ n b. n * 10 + (b - 48)) 0 digits
 
+-- the most digits that the number of a list has (5.2 List items)
+abbrev pub most_digits : ℕ
+most_digits = 9
+
 -- 1 to 9 digits
 abbrev pub is_number : List ℕ → Bool
-is_number digits = nat_le 1 (length digits) && nat_le (length digits) 9
+is_number digits = nat_le 1 (length digits) && nat_le (length digits) most_digits
 
 -- an ordered list marker with these digits
 unfoldable pub marker_behind : List ℕ → List ℕ → Option ItemMarker

@@ -12,7 +12,6 @@ use Rattle.cm_tree.specs.declared.tree.Owner.TheVariants.{Leaf, Marker, Blank}
 use Rattle.cm_tree.specs.Followed.{is_line_space}
 use Rattle.cm_tree.specs.RawBlocks.{raw_inlines}
 use Rattle.cm_tree.specs.Definitions.{Target, Targets, add_all}
-use Rattle.std.specs.FinMap.{empty}
 use Rattle.cm_scan.specs.Words.{given}
 use Rattle.cm_scan.specs.blocks.LineForms.{is_same_kind}
 
@@ -222,4 +221,4 @@ unfoldable mutual
 
 -- the table of these definitions, in which the first of matching labels counts (4.7 Link reference definitions)
 unfoldable pub table_of : Parts → Targets
-table_of parts = add_all empty (definitions_in parts)
+table_of parts = add_all [] (definitions_in parts)

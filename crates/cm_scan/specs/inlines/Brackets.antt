@@ -1,12 +1,11 @@
 -- Links and images by their brackets (CommonMark 0.31.2, 6.3 Links, 6.4 Images). The items so far are in reverse.
 use Rattle.std.specs.Prelude.{ℕ, ◌-◌, Bool, true, false, not, ◌&&◌, ◌||◌, List, [], ◌∷◌, ◌++◌, length, take, reverse, Option, Some, None, codes, if◌then◌else◌}
-use Rattle.std.specs.FinMap.{get}
 use Rattle.cm_text.specs.Bytes.{right_bracket}
 use Rattle.cm_text.specs.Rules.{Rules}
 use Rattle.cm_text.specs.Addresses.{is_followed}
 use Rattle.cm_text.specs.Labels.{fold_label}
 use Rattle.cm_text.specs.Unescaping.{unescape}
-use Rattle.cm_tree.specs.Definitions.{Target, Targets}
+use Rattle.cm_tree.specs.Definitions.{Target, Targets, target_under}
 use Rattle.cm_tree.specs.declared.tree.Inline.TheVariants.{Link, Image}
 use Rattle.cm_scan.specs.Words.{is_empty, after_word}
 use Rattle.cm_scan.specs.spans.Tags.{is_blank_next, after_gap}
@@ -54,7 +53,7 @@ Defined = List ℕ → Option Target
 
 -- the definitions of a document's table
 abbrev pub defined_in : Targets → Defined
-defined_in targets folded = get targets folded
+defined_in targets folded = target_under folded targets
 
 abbrev pub target_of : Defined → List ℕ → Option Target
 target_of defined source = defined (fold_label source)

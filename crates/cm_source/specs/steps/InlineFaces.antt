@@ -2,9 +2,9 @@
 use Rattle.std.specs.Prelude.{Option, option_map, reverse}
 use Rattle.cm_scan.specs.inlines.Atoms.{first_character, last_character}
 use Rattle.cm_source.specs.InlineRefusals as refusals
-use Rattle.cm_source.specs.declared.inline_refusals.Face.{Face}
-use Rattle.cm_source.specs.declared.inline_refusals.Face.TheVariants.{Text, Code, Break, Emphasis, Other}
-use Rattle.cm_source.specs.declared.inline_refusals.Place.{Place}
+use Rattle.cm_source.specs.declared.inline_refusals.faces.Face.{Face}
+use Rattle.cm_source.specs.declared.inline_refusals.faces.Face.TheVariants.{Text, Code, Break, Emphasis, Other}
+use Rattle.cm_source.specs.declared.inline_refusals.faces.Place.{Place}
 
 -- the face of the definitions, which has the first and the last character of a text
 abbrev pub shown : Face → refusals.Face

@@ -16,8 +16,8 @@ use Rattle.cm_scan.specs.inlines.Brackets.{defined_in}
 use Rattle.std.specs.Prelude.{option_map, None}
 use Rattle.cm_tool.specs.declared.fault.Fault.{Fault}
 use Rattle.cm_tool.specs.declared.fault.Fault.TheVariants.{InlinesTooDeep}
-use Rattle.cm_tool.specs.declared.outputs.leaf_walk.LeafWalk.{LeafWalk}
-use Rattle.cm_tool.specs.declared.outputs.leaf_walk.Unread.{Unread}
+use Rattle.cm_tool.specs.declared.outlines.leaf_walk.LeafWalk.{LeafWalk}
+use Rattle.cm_tool.specs.declared.outlines.leaf_walk.Unread.{Unread}
 use Rattle.cm_tool.specs.Leaves.{depths_in, first_leaf_past, leaf_depths}
 use Rattle.cm_tool.specs.Parsing.{TellsFault}
 use Rattle.cm_tool.specs.steps.Items.{items_leaf_depths, items_read}

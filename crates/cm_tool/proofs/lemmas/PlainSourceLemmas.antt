@@ -10,7 +10,7 @@ use Rattle.cm_source.specs.declared.why.Why.{Why}
 use Rattle.cm_source.specs.Definitions.{cleared, is_definition, kept, without_definitions}
 use Rattle.cm_source.specs.Refusals.{refusal_of}
 use Rattle.cm_source.specs.Speller.{HasSpelled, Refuses}
-use Rattle.cm_tool.specs.declared.outputs.plain_source.PlainSource as code
+use Rattle.cm_tool.specs.declared.outlines.plain_source.PlainSource as code
 use Rattle.cm_tool.specs.steps.PlainSources.{Spells, HasTaken}
 
 -- one more block after those that a source has taken

@@ -2,6 +2,7 @@
 use Rattle.std.proofs.Common.{◌≡◌, ℕ, ◌+◌, List, [], ◌++◌, take, refl, sym, ap, subst, ◌∙◌, append_assoc, append-nil, Some, None, inl, inr}
 use Rattle.std.specs.Prelude.{Option, Result, Ok, Err, IfOk, IfErr}
 use Rattle.std.specs.Io.KnownBytes.{Consumes, Keeps, IsAtEnd}
+use Rattle.cm_text.specs.DeviceViews.{SourceView}
 use Rattle.cm_text.specs.Limits.{LimitsView}
 use Rattle.cm_tree.specs.declared.tree.Doc.{Doc}
 use Rattle.cm_tool.specs.declared.fault.Fault.{Fault}
@@ -9,7 +10,7 @@ use Rattle.cm_tool.specs.declared.fault.Fault.TheVariants.{NotUtf8, TooLong, Blo
 use Rattle.cm_tool.specs.Faults.{fault_of, settled_fault_of}
 use Rattle.cm_block.specs.declared.parser.Outline.{Outline}
 use Rattle.cm_tool.specs.Parsing.{ParserView, HasTakenIn, TellsFault, Finishes}
-use Rattle.cm_tool.specs.Reading.{SourceView, HasFailed, RefusesBy, Refuses, Reads, ReadWhole}
+use Rattle.cm_tool.specs.Reading.{HasFailed, RefusesBy, Refuses, Reads, ReadWhole}
 use Rattle.cm_tool.specs.steps.ReadingSteps.{IsOutline, ReadsOutline}
 
 -- these bytes have been read so far, and no read has failed

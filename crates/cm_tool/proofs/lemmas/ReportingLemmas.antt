@@ -1,14 +1,15 @@
 -- Writing the report of a source's examples.
 use Rattle.std.proofs.Common.{◌≡◌, ◌∙◌, ℕ, List, [], ◌∷◌, refl, sym, ap, subst}
 use Rattle.std.specs.Prelude.{Result, Ok, Err}
+use Rattle.cm_text.specs.DeviceViews.{SinkView, SourceView}
 use Rattle.cm_text.specs.Limits.{LimitsView}
 use Rattle.cm_text.specs.Lines.{text_of}
 use Rattle.cm_text.specs.Rules.{Rules}
-use Rattle.cm_text.specs.Writing.{SinkView, Wrote, WroteFront}
+use Rattle.cm_text.specs.Writing.{Wrote, WroteFront}
 use Rattle.cm_tool.specs.declared.fault.Fault.{Fault}
 use Rattle.cm_tool.specs.declared.fault.Fault.TheVariants.{WriteFailed}
 use Rattle.cm_tool.specs.ExampleFiles.{DifferenceView, ReportView, report_on, verdict_of}
-use Rattle.cm_tool.specs.Reading.{SourceView, IsWhole, fault_of_text}
+use Rattle.cm_tool.specs.Reading.{IsWhole, fault_of_text}
 use Rattle.cm_tool.specs.Reporting.{IsReported, WritesReport, report_text}
 
 -- the report of what was read

@@ -3,11 +3,12 @@ use Rattle.std.proofs.Common.{◌≡◌, ◌∙◌, ℕ, List, length, ap, subst
 use Rattle.std.specs.Prelude.{None, Ok, Err, String, string_bytes, IsUtf8}
 use Rattle.std.proofs.lemmas.Str.{IsUtf8-string_bytes}
 use Rattle.std.specs.declared.alloc.Global.{Global}
+use Rattle.cm_text.specs.DeviceViews.{SinkView, SourceView}
 use Rattle.cm_text.specs.Limits.{LimitsView}
-use Rattle.cm_text.specs.Writing.{SinkView, Wrote, WroteFront}
+use Rattle.cm_text.specs.Writing.{Wrote, WroteFront}
 use Rattle.cm_tool.specs.declared.fault.Fault.TheVariants.{WriteFailed}
 use Rattle.cm_tool.specs.Faults.{fault_of}
-use Rattle.cm_tool.specs.Reading.{SourceView, ReadWhole}
+use Rattle.cm_tool.specs.Reading.{ReadWhole}
 use Rattle.cm_tool.specs.Rewriting.{Rewrites, IsLasting, kept_tree}
 use Rattle.cm_tool.specs.steps.PlainSources.{Spelled}
 use Rattle.cm_tool.proofs.lemmas.LastingLemmas.{is_lasting}

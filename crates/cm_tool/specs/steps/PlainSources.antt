@@ -8,7 +8,7 @@ use Rattle.cm_source.specs.declared.why.Why.{Why}
 use Rattle.cm_source.specs.Refusals.{refusal_of, IsSpellable}
 use Rattle.cm_source.specs.Speller.{HasSpelled}
 use Rattle.cm_source.specs.Spelling.{spelling_of}
-use Rattle.cm_tool.specs.declared.outputs.plain_source.PlainSource as code
+use Rattle.cm_tool.specs.declared.outlines.plain_source.PlainSource as code
 
 -- a speller that stands for these blocks, or why they can't be spelled, whatever is after them
 abbrev pub Spells : Option Why → Speller → Rules → List Block → Type 0

@@ -2,6 +2,7 @@
 use Rattle.std.specs.Prelude.{◌≡◌, ℕ, List, Option, None, Result, Ok, Err}
 use Rattle.std.specs.Option.{option_map}
 use Rattle.std.specs.Io.KnownBytes.{IsAtEnd}
+use Rattle.cm_text.specs.DeviceViews.{SourceView}
 use Rattle.cm_text.specs.Limits.{LimitsView}
 use Rattle.cm_text.specs.Lines.{plain_lines_of, text_of}
 use Rattle.cm_block.specs.declared.parser.Outline.{Outline}
@@ -9,7 +10,7 @@ use Rattle.cm_block.specs.Parser.{OutlineOf}
 use Rattle.cm_tool.specs.declared.fault.Fault.{Fault}
 use Rattle.cm_tool.specs.declared.fault.Fault.TheVariants.{InlinesTooDeep}
 use Rattle.cm_tool.specs.Faults.{fault_of, settled_fault_of}
-use Rattle.cm_tool.specs.Reading.{SourceView, RefusesBy, Refuses}
+use Rattle.cm_tool.specs.Reading.{RefusesBy, Refuses}
 use Rattle.cm_tool.specs.steps.FaultOrder.{leaf_deep}
 
 -- the outline of the bytes, which have no fault but that of a leaf too deep

@@ -48,14 +48,11 @@ pub(crate) fn report<R: Source, W: Sink>(
     sink: &mut W,
     limits: Limits,
 ) -> Result<usize, Fault>
-    requires reads { R.failed source.old < 2 ^ 64 - 1 }
-    requires writes { W.failed sink.old < 2 ^ 64 - 1 }
-    ensures { (bytes : List ℕ) × Consumes (R.remaining source.old) (R.remaining source.new) bytes
-        × WritesReport result limits bytes
-        (record { remaining = R.remaining source.old; failed = R.failed source.old })
-        (record { remaining = R.remaining source.new; failed = R.failed source.new })
-        (record { taken = W.taken sink.old; failed = W.failed sink.old })
-        (record { taken = W.taken sink.new; failed = W.failed sink.new }) }
+    requires reads { (R.seen source.old).failed < 2 ^ 64 - 1 }
+    requires writes { (W.seen sink.old).failed < 2 ^ 64 - 1 }
+    ensures { (bytes : List ℕ) × Consumes (R.seen source.old).remaining (R.seen source.new).remaining bytes
+        × WritesReport result limits bytes (R.seen source.old) (R.seen source.new)
+        (W.seen sink.old) (W.seen sink.new) }
 {
     let text = read_text(alloc, source, limits)?;
     let report = examples_by(alloc, limits.rules(), &text)?;

@@ -7,7 +7,7 @@ ghost use Rattle.cm_tool.specs.Writing.{converted};
 ghost use Rattle.cm_tool.specs.steps.ReadingSteps.{IsOutline};
 
 use crate::fault::Fault;
-use crate::outputs::{doc_of_outline, html_of_outline, plain_source_of_outline};
+use crate::outlines::{doc_of_outline, html_of_outline, plain_source_of_outline};
 use crate::reading::parser::Parser;
 use cm_block::Outline;
 use cm_html::Pages;

@@ -19,7 +19,7 @@ ghost use Rattle.cm_tool.specs.steps.Handing.{Hands};
 ghost use Rattle.cm_tool.specs.steps.Pushing.{Pushes, Counts};
 
 use crate::fault::Fault;
-use crate::outputs::{doc_of_outline, html_of_outline};
+use crate::outlines::{doc_of_outline, html_of_outline};
 use crate::reading::taking_in::TakesBytes;
 use cm_block::{BlockFault, BlockParser, Outline};
 use cm_html::Pages;

@@ -36,13 +36,12 @@ pub(crate) fn take_all<R: Source, T: TakesBytes>(
     taker: &mut T,
     buffer: &mut [u8],
 ) -> Result<(), Fault>
-    requires failures { R.failed source.old < 2 ^ 64 - 1 }
+    requires failures { (R.seen source.old).failed < 2 ^ 64 - 1 }
     requires room { 0 < length buffer.old }
-    ensures { (bytes : List ℕ) × Consumes (R.remaining source.old) (R.remaining source.new) bytes
+    ensures { (bytes : List ℕ) × Consumes (R.seen source.old).remaining (R.seen source.new).remaining bytes
         × ((limits : LimitsView) → T.has_taken_in limits taker.old [] → T.settled limits [] ≡ None
         → TakesIn (T.has_taken_in limits taker.new) (T.settled limits) result bytes
-        (record { remaining = R.remaining source.old; failed = R.failed source.old })
-        (record { remaining = R.remaining source.new; failed = R.failed source.new })) }
+        (R.seen source.old) (R.seen source.new)) }
 {
     loop {
         let Ok(n) = source.read(buffer) else {

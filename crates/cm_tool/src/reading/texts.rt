@@ -72,11 +72,9 @@ impl TakesBytes for TextBytes {
 /// The only faults of a text that it reports are that the bytes aren't UTF-8, or are too many. A fault that
 /// the bytes settle ends the reading: no read is made after it. So does a failed read.
 pub fn read_text<R: Source>(alloc: Global, source: &mut R, limits: Limits) -> Result<String, Fault>
-    requires { R.failed source.old < 2 ^ 64 - 1 }
-    ensures { (bytes : List ℕ) × Consumes (R.remaining source.old) (R.remaining source.new) bytes
-        × ReadsText result limits bytes
-        (record { remaining = R.remaining source.old; failed = R.failed source.old })
-        (record { remaining = R.remaining source.new; failed = R.failed source.new }) }
+    requires { (R.seen source.old).failed < 2 ^ 64 - 1 }
+    ensures { (bytes : List ℕ) × Consumes (R.seen source.old).remaining (R.seen source.new).remaining bytes
+        × ReadsText result limits bytes (R.seen source.old) (R.seen source.new) }
 {
     let mut buffer = zeros(alloc, SLICE)?;
     let mut text = TextBytes {

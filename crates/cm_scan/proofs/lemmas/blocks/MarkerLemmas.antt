@@ -6,7 +6,7 @@ use Rattle.std.proofs.lemmas.Bool.{cases_Bool}
 use Rattle.std.proofs.lemmas.List.{drop_all}
 use Rattle.cm_tree.specs.declared.tree.ListKind.{ListKind}
 use Rattle.cm_scan.specs.Words.{is_digit, front_of, skip, ◌<|>◌}
-use Rattle.cm_scan.specs.blocks.LineForms.{ItemMarker, bullet_kind, ordered_kind, marker_at_gap, bullet_marker, decimal_value, marker_behind, ordered_marker, item_marker}
+use Rattle.cm_scan.specs.blocks.LineForms.{most_digits, ItemMarker, bullet_kind, ordered_kind, marker_at_gap, bullet_marker, decimal_value, marker_behind, ordered_marker, item_marker}
 use Rattle.cm_scan.specs.steps.LineSteps.{with_digit}
 
 -- digits
@@ -99,7 +99,7 @@ unfolding bullet_marker marker_behind
 parts-nothing [] = refl
 parts-nothing (d ∷ ds) = refl
 
-parts-many : (ds rest : List ℕ) → 9 < length ds → by_parts ds rest ≡ None
+parts-many : (ds rest : List ℕ) → most_digits < length ds → by_parts ds rest ≡ None
 unfolding marker_behind
 parts-many [] rest many = absurd (omega arith)
 parts-many (d ∷ ds) [] many = refl
@@ -112,24 +112,24 @@ kind_at n number b = if n == 0 then bullet_kind b else ordered_kind number b
 kind-digit : (n number b : ℕ) → is_digit b ≡ true → kind_at n number b ≡ None
 kind-digit n number b digit = grind (arith, digit)
 
-parts-kind : (ds : List ℕ) (b : ℕ) (behind : List ℕ) → length ds ≤ 9
+parts-kind : (ds : List ℕ) (b : ℕ) (behind : List ℕ) → length ds ≤ most_digits
     → by_parts ds (b ∷ behind) ≡ marker_at_gap (kind_at (length ds) (decimal_value ds) b) (length ds) behind
 unfolding bullet_marker marker_behind
 parts-kind [] b behind few = refl
 parts-kind (d ∷ ds) b behind few = grind (arith, few)
 
--- less than nine, or nine and more
-le_from_not : (n : ℕ) → (n < 9 → ⊥) → 9 ≤ n
+-- fewer, or that many and more
+le_from_not : (n : ℕ) → (n < most_digits → ⊥) → most_digits ≤ n
 le_from_not n fails = omega arith
 
--- a marker, by the place after the first nine digits
+-- a marker, by the place after the most digits that it may have
 module _ (bs : List ℕ) (at e number : ℕ)
     (begin : at ≤ e)
     (count : e + length (front_of is_digit (drop e bs)) ≡ at + length (front_of is_digit (drop at bs)))
     (value : fold with_digit number (front_of is_digit (drop e bs)) ≡ decimal_value (front_of is_digit (drop at bs)))
     (left : skip is_digit (drop e bs) ≡ skip is_digit (drop at bs))
-    (few : e - at ≤ 9)
-    (whole : e - at < 9 → front_of is_digit (drop e bs) ≡ []) where
+    (few : e - at ≤ most_digits)
+    (whole : e - at < most_digits → front_of is_digit (drop e bs) ≡ []) where
   -- with nothing after them
   pub marker-end : length bs ≤ e → item_marker (drop at bs) ≡ None
   marker-end past =
@@ -140,8 +140,8 @@ module _ (bs : List ℕ) (at e number : ℕ)
     after-digits : is_digit (get_or bs e 0) ≡ true → item_marker (drop at bs) ≡ None
     after-digits digit =
         let one : length (front_of is_digit (drop e bs)) ≡ suc (length (front_of is_digit (drop (e + 1) bs))) = ap length (front_step bs e within digit) in
-        let nine : 9 ≤ e - at = le_from_not (e - at) (λ less. grind (arith, one, whole less)) in
-        marker-parts (drop at bs) ∙ parts-many (front_of is_digit (drop at bs)) (skip is_digit (drop at bs)) (omega (arith, one, count, nine))
+        let all : most_digits ≤ e - at = le_from_not (e - at) (λ less. grind (arith, one, whole less)) in
+        marker-parts (drop at bs) ∙ parts-many (front_of is_digit (drop at bs)) (skip is_digit (drop at bs)) (omega (arith, one, count, all))
 
     after-number : is_digit (get_or bs e 0) ≡ false
         → item_marker (drop at bs) ≡ marker_at_gap (kind_at (e - at) number (get_or bs e 0)) (e - at) (drop (e + 1) bs)

@@ -1,7 +1,9 @@
 -- What a scanner returns, against the definition.
-use Rattle.std.proofs.Common.{◌≡◌, ℕ, zero, suc, ◌+◌, ◌<◌, ◌==◌, ◌&&◌, nat_le, Bool, true, false, List, [], ◌∷◌, length, drop, get_or, Option, Some, None, refl, sym, ap, subst, ◌∙◌, arith}
+use Rattle.std.proofs.Common.{◌≡◌, ℕ, zero, suc, ◌+◌, ◌-◌, ◌≤◌, ◌<◌, ◌==◌, ◌&&◌, nat_le, Bool, true, false, List, [], ◌∷◌, length, take, drop, get_or, Option, Some, None, refl, sym, ap, subst, ◌∙◌, arith, length-take, length-drop}
 use Rattle.std.specs.List.{slice_range, list_all}
+use Rattle.std.specs.Str.{IsCharBoundary}
 use Rattle.std.proofs.lemmas.Bool.Decides.{nat_tests}
+use Rattle.cm_scan.specs.Scanned.{IsAt}
 use Rattle.cm_scan.specs.Words.{begins_with, given}
 use Rattle.cm_scan.specs.spans.Tags.{is_blank_byte}
 use Rattle.cm_scan.specs.inlines.Links.{Reading, keep_if, up_to_closing, characters, is_label, label}
@@ -93,3 +95,10 @@ enclosed-some F text copy inside at end same i some =
     let first : at + 1 ≡ suc at = omega arith in
     ap (λ t. Some (record { text = t; rest = drop (end + 1) text })) i ∙ ap (λ n. Some (record { text = slice_range text (at + 1) end; rest = drop n text })) (sym next)
     ∙ read ∙ ap (λ n. F (drop n text)) first
+
+-- a part between two places
+pub part-at : (text part : List ℕ) (from to : ℕ) → part ≡ slice_range text from to → from ≤ to → IsCharBoundary text from → IsCharBoundary text to → IsAt text from part
+part-at text part from to is low start end =
+    let count : length (slice_range text from to) ≡ to - from = omega (arith, length-take (to - from) (drop from text), length-drop from text, end.0, low) in
+    let place : from + length part ≡ to = omega (arith, ap length is, count, low) in
+    record { start = start; end = subst (IsCharBoundary text) (sym place) end; is = ap (slice_range text from) place ∙ sym is }

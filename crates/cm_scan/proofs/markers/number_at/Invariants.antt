@@ -1,7 +1,7 @@
 use Rattle.std.proofs.Common.{◌≡◌, ◌+◌, ◌-◌, ◌<◌, ◌≤◌, drop, length}
 use Rattle.std.specs.List.{fold}
 use Rattle.cm_scan.specs.Words.{is_digit, front_of, skip}
-use Rattle.cm_scan.specs.blocks.LineForms.{decimal_value}
+use Rattle.cm_scan.specs.blocks.LineForms.{decimal_value, most_digits}
 use Rattle.cm_scan.specs.steps.LineSteps.{with_digit}
 use Rattle.cm_scan.proofs.lemmas.blocks.MarkerLemmas.{bound}
 use Rattle.cm_scan.proofs.markers.number_at.Given as goal
@@ -13,7 +13,7 @@ invariant-loop-end l = record {
   count : l.end + length (front_of is_digit (drop l.end l.bytes)) ≡ l.at + length (front_of is_digit (drop l.at l.bytes));
   value : fold with_digit l.number (front_of is_digit (drop l.end l.bytes)) ≡ decimal_value (front_of is_digit (drop l.at l.bytes));
   left : skip is_digit (drop l.end l.bytes) ≡ skip is_digit (drop l.at l.bytes);
-  few : l.end - l.at ≤ 9;
+  few : l.end - l.at ≤ most_digits;
   fits : l.number < bound (l.end - l.at);
 }
 

@@ -9,7 +9,7 @@ use Rattle.cm_text.specs.Rules.{Rules}
 use Rattle.cm_tree.specs.declared.tree.ListKind.{ListKind}
 use Rattle.cm_tree.specs.declared.tree.ListKind.TheVariants.{Dash, Plus, Star, Dot, Paren}
 use Rattle.cm_scan.specs.Words.{is_space_or_tab, is_digit, is_at_gap, skip, front_of, run_length, after_run, given, ◌<|>◌}
-use Rattle.cm_scan.specs.blocks.LineForms.{atx_heading, underline, opening_fence, fence_of, is_thematic_break, ItemMarker, item_marker, bullet_marker, ordered_marker, marker_behind, marker_at_gap, ordered_kind, is_number, decimal_value}
+use Rattle.cm_scan.specs.blocks.LineForms.{most_digits, atx_heading, underline, opening_fence, fence_of, is_thematic_break, ItemMarker, item_marker, bullet_marker, ordered_marker, marker_behind, marker_at_gap, ordered_kind, is_number, decimal_value}
 use Rattle.cm_scan.specs.blocks.HtmlBlocks.{html_start}
 use Rattle.cm_scan.specs.blocks.Starts.{ItemStart, start_of_content}
 use Rattle.cm_scan.specs.laws.BlockLaws.{is_unindented}
@@ -148,7 +148,7 @@ module _ (rules : Rules) where
       clean = ap is_one_line mark ∙ list_all-append (λ b. not (b == 0) && (not (b == 10) && not (b == 13))) ds (p ∷ []) ∙ ap (λ v. v && is_one_line (p ∷ [])) (digits-clean ds all) ∙ clean;
     }
 
-  below : (n : ℕ) → begins_too_high (Dot n) ≡ false → n < 10 ^ 9
+  below : (n : ℕ) → begins_too_high (Dot n) ≡ false → n < 10 ^ most_digits
   below n h = grind (arith, nat_tests, h)
 
   pub kind-fits : (kind : ListKind) → begins_too_high kind ≡ false → KindFits rules kind

@@ -8,7 +8,7 @@ use Rattle.std.specs.Prelude.{nat_le, ◌&&◌}
 use Rattle.std.specs.List.{list_all, fold}
 use Rattle.std.specs.Fmt.{decimal}
 use Rattle.cm_scan.specs.Words.{is_digit}
-use Rattle.cm_scan.specs.blocks.LineForms.{is_number, decimal_value}
+use Rattle.cm_scan.specs.blocks.LineForms.{most_digits, is_number, decimal_value}
 
 AreDigits : List ℕ → Type 0
 AreDigits ds = list_all is_digit ds ≡ true
@@ -31,7 +31,7 @@ folds = record { empty = λ n. refl; more = λ n c cs r. refl }
 model : IsNumeralModel AreDigits (value_after 0)
 model = numerals_by_fold AreDigits tells value_after folds
 
-module _ (n : ℕ) (small : n < 10 ^ 9) where
+module _ (n : ℕ) (small : n < 10 ^ most_digits) where
   small_enough : n < 2 ^ 64
   small_enough = omega (arith, small)
 
@@ -45,5 +45,5 @@ module _ (n : ℕ) (small : n < 10 ^ 9) where
 
   pub short-is : is_number (decimal n) ≡ true
   short-is =
-      ap (λ v. v && nat_le (length (decimal n)) 9) (le-leb 1 (length (decimal n)) (decimal_nonempty n small_enough))
-      ∙ le-leb (length (decimal n)) 9 (length-decimal-le 9 n (omega arith) small small_enough)
+      ap (λ v. v && nat_le (length (decimal n)) most_digits) (le-leb 1 (length (decimal n)) (decimal_nonempty n small_enough))
+      ∙ le-leb (length (decimal n)) most_digits (length-decimal-le most_digits n (omega arith) small small_enough)

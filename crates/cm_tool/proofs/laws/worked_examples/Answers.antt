@@ -1,17 +1,8 @@
-use Rattle.std.proofs.Common.{◌≡◌, ℕ, List, [], ◌∷◌, Option, Some, ap, codes, refl}
+use Rattle.std.proofs.Common.{ℕ, List, refl}
 use Rattle.ucd_category.proofs.Computing.{ucd_category}
-use Rattle.cm_text.specs.Rules.{profile}
 use Rattle.cm_text.specs.Addresses.{address_scheme}
-use Rattle.cm_text.specs.Lines.{text_of, plain_lines_of}
 use Rattle.cm_text.proofs.lemmas.Computing.{label_folding}
-use Rattle.cm_tree.specs.Definitions.{Target}
-use Rattle.cm_tree.specs.declared.tree.Inline.TheVariants.{Link, Text}
-use Rattle.cm_tree.proofs.lemmas.Targets.{first_counts}
-use Rattle.cm_scan.specs.inlines.Brackets.{Defined}
-use Rattle.cm_scan.specs.inlines.Inlines.{inlines_of}
-use Rattle.cm_scan.specs.Documents.{defined_by}
 use Rattle.cm_tool.specs.Shown.{is_nonprinting}
-use Rattle.cm_tool.specs.Writing.{converted}
 use Rattle.std.specs.Fmt.{digits}
 use Rattle.std.specs.Str.{is_utf8, chars}
 use Rattle.std.specs.Str.Lossy.{utf8_valid_len, utf8_error_len}
@@ -28,22 +19,6 @@ use Rattle.cm_tree.specs.Depth.{depth_step}
 use Rattle.cm_tool.specs.Leaves.{depths_step}
 use Rattle.cm_tool.proofs.laws.worked_examples.Goals as goal
 use lib.Utf8.{encode}
-
--- the link of a paragraph in a text with a definition after it
-abbrev defined_behind : Defined
-defined_behind = defined_by profile (plain_lines_of (text_of (codes "[a]\n\n[A]: /u\n")))
-
-its_target : defined_behind (codes "a") ≡ Some (codes "/u", [])
-unfolding block_structure label_folding
-its_target = first_counts ((codes "A", (codes "/u", [])) ∷ []) (codes "a")
-
-link_made : (defined : Defined) → defined (codes "a") ≡ Some (codes "/u", []) → inlines_of profile defined (codes "[a]") ≡ Link (codes "/u") [] (Text (codes "a") ∷ []) ∷ []
-unfolding inline_structure
-link_made defined is = ap (λ (target : Option Target). inlines_of profile (λ folded. target) (codes "[a]")) is
-
-link_page : converted profile (codes "[a]\n\n[A]: /u\n") ≡ codes "<p><a href=\"/u\">a</a></p>\n"
-unfolding block_structure is_kept destination_byte
-link_page = simp (fold_out-Block Block, fold_out-Block Written block_step, fold_out-Inline Rendered inline_step, link_made defined_behind its_target, paragraph, definition, text, link)
 
 pub returns-clause-faults : goal.returns-clause-faults
 unfolding block_structure inline_structure utf8_valid_len utf8_error_len is_utf8 chars encode
@@ -62,7 +37,7 @@ returns-clause-faults c = record {
 }
 
 pub returns-clause-html : goal.returns-clause-html
-unfolding block_structure inline_structure class_word digits is_kept destination_byte address_scheme
+unfolding block_structure inline_structure label_folding class_word digits is_kept destination_byte address_scheme
 returns-clause-html c = record {
   no_text = refl;
   paragraph_over_two_lines = simp (fold_out-Block Block, fold_out-Block Written block_step, fold_out-Inline Rendered inline_step, paragraph, text, soft);
@@ -75,7 +50,7 @@ returns-clause-html c = record {
   nul = simp (fold_out-Block Block, fold_out-Block Written block_step, fold_out-Inline Rendered inline_step, paragraph, text);
   blank_line = simp (fold_out-Block Block, fold_out-Block Written block_step, fold_out-Inline Rendered inline_step, paragraph, text);
   emphasis = simp (fold_out-Block Block, fold_out-Block Written block_step, fold_out-Inline Rendered inline_step, paragraph, text, emph, strong);
-  link_before_its_definition = link_page;
+  link_before_its_definition = simp (fold_out-Block Block, fold_out-Block Written block_step, fold_out-Inline Rendered inline_step, paragraph, definition, text, link);
   search_interrupts_a_paragraph = simp (fold_out-Block Block, fold_out-Block Written block_step, fold_out-Inline Rendered inline_step, paragraph, raw, text);
   source_by_the_older_rules = simp (fold_out-Block Block, fold_out-Block Written block_step, fold_out-Inline Rendered inline_step, paragraph, raw, text);
   block_of_a_stranger = simp (fold_out-Block Block, fold_out-Block Written block_step, fold_out-Inline Rendered inline_step, paragraph, text, emph);

@@ -8,8 +8,7 @@ invariant-loop-n g l = (read : List ℕ)
     × ((limits : LimitsView) → g.T.TakesBytes.has_taken_in limits l.initial.taker [] → g.T.TakesBytes.settled limits [] ≡ None →
     g.T.TakesBytes.has_taken_in limits l.taker read × (g.T.TakesBytes.settled limits read ≡ None))
     × SoFar
-    (record { remaining = g.R.Source.remaining l.initial.source; failed = g.R.Source.failed l.initial.source })
-    (record { remaining = g.R.Source.remaining l.source; failed = g.R.Source.failed l.source }) read
+    (g.R.Source.seen l.initial.source) (g.R.Source.seen l.source) read
 
 abbrev pub decreases-loop-n : goal.decreases-loop-n
 decreases-loop-n g l = g.T.TakesBytes.left l.taker

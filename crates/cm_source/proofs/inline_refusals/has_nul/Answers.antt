@@ -1,7 +1,0 @@
-use Rattle.std.proofs.Common.{◌==◌, arith}
-use Rattle.std.proofs.lemmas.Grind.{common_steps}
-use Rattle.cm_source.proofs.lemmas.spelling.SearchLemmas.{found-any}
-use Rattle.cm_source.proofs.inline_refusals.has_nul.Goals as goal
-
-pub returns : goal.returns
-returns c = grind (arith, common_steps, c.next_of.ensures, found-any (λ b. b == 0) c.args.text.now)

@@ -1,0 +1,120 @@
+//! What an outline becomes: the document, its HTML, its listing, its JSON, its plain source.
+ghost use Rattle.std.specs.Prelude.{◌≡◌, ℕ, List};
+ghost use Rattle.cm_tool.specs.Parsing.{Finishes, Makes};
+ghost use Rattle.cm_tool.specs.Rewriting.{kept_tree};
+ghost use Rattle.cm_tool.specs.Writing.{converted, listed, in_json, IsTreeInJson};
+ghost use Rattle.cm_tool.specs.steps.ReadingSteps.{IsOutline};
+ghost use Rattle.cm_tool.specs.steps.PlainSources.{Spelled};
+
+mod document;
+mod html;
+mod json;
+mod leaf_walk;
+mod listing;
+mod plain_source;
+
+use crate::fault::Fault;
+use cm_block::Outline;
+use cm_html::Pages;
+use cm_source::Why;
+use cm_text::Limits;
+use cm_tree::Doc;
+use document::read_leaves;
+use html::leaves_html;
+use json::leaves_json;
+use listing::leaves_listing;
+use plain_source::leaves_plain_source;
+use std::alloc::Global;
+
+/// The document of an outline.
+pub(crate) fn doc_of_outline(alloc: Global, limits: Limits, outline: Outline) -> Result<Doc, Fault>
+    ensures { (bytes : List ℕ) → IsOutline limits bytes outline → Finishes result limits bytes }
+{
+    let Outline {
+        blocks,
+        owners,
+        definitions,
+        ..
+    } = outline;
+    let blocks = read_leaves(alloc, limits, definitions, blocks)?;
+    let owners = owners.to_items(alloc)?;
+    Ok(Doc { blocks, owners })
+}
+
+/// The HTML of an outline's document in pages. The first page has room for this number of bytes, up to a
+/// whole page.
+pub(crate) fn html_of_outline(
+    alloc: Global,
+    limits: Limits,
+    outline: Outline,
+    room: usize,
+) -> Result<Pages, Fault>
+    ensures { (bytes : List ℕ) → IsOutline limits bytes outline
+        → Makes (λ pages. pages ≡ converted limits.rules bytes) result limits bytes }
+{
+    let Outline {
+        blocks,
+        owners,
+        definitions,
+        ..
+    } = outline;
+    // The HTML is written to the memory of the owners, which it doesn't show.
+    drop(owners);
+    leaves_html(alloc, limits, definitions, blocks, room)
+}
+
+/// The listing of an outline's document, in pages.
+pub(crate) fn listing_of_outline(
+    alloc: Global,
+    limits: Limits,
+    outline: Outline,
+) -> Result<Pages, Fault>
+    ensures { (bytes : List ℕ) → IsOutline limits bytes outline
+        → Makes (λ pages. pages ≡ listed limits.rules bytes) result limits bytes }
+{
+    let Outline {
+        blocks,
+        owners,
+        definitions,
+        ..
+    } = outline;
+    leaves_listing(alloc, limits, definitions, blocks, owners)
+}
+
+/// The JSON of an outline's document, in pages.
+pub(crate) fn json_of_outline(
+    alloc: Global,
+    limits: Limits,
+    outline: Outline,
+) -> Result<Pages, Fault>
+    ensures { (bytes : List ℕ) → IsOutline limits bytes outline
+        → Makes (λ pages. (pages ≡ in_json limits.rules bytes) × IsTreeInJson limits.rules bytes)
+        result limits bytes }
+{
+    let Outline {
+        blocks,
+        owners,
+        definitions,
+        ..
+    } = outline;
+    leaves_json(alloc, limits, definitions, blocks, owners)
+}
+
+/// The plain source of an outline's document without its definitions, or why it can't be spelled.
+pub(crate) fn plain_source_of_outline(
+    alloc: Global,
+    limits: Limits,
+    outline: Outline,
+) -> Result<Result<String, Why>, Fault>
+    ensures { (bytes : List ℕ) → IsOutline limits bytes outline
+        → Makes (Spelled limits.rules (kept_tree limits.rules bytes)) result limits bytes }
+{
+    let Outline {
+        blocks,
+        owners,
+        definitions,
+        ..
+    } = outline;
+    drop(owners);
+    leaves_plain_source(alloc, limits, definitions, blocks)
+}

@@ -1,0 +1,79 @@
+//! The tree of an outline as JSON. The tree is never held whole: each block is freed once it is written.
+ghost use Rattle.std.specs.Prelude.{◌≡◌, List, [], None, true, map, IfOk, IfErr, OnOk, option_map};
+ghost use Rattle.cm_json.specs.Mdast.{json_of, value_of};
+ghost use Rattle.cm_json.specs.SameDocuments.{are_in_range};
+ghost use Rattle.cm_json.specs.Writer.{whole_with, IsWithin};
+ghost use Rattle.cm_json.specs.Writing.{IsJson};
+ghost use Rattle.cm_tool.specs.declared.fault.Fault.TheVariants as faults;
+ghost use Rattle.cm_tool.specs.steps.LeafWalks.{defined_in, with_inlines, leaf_depths, first_leaf_past};
+ghost use Rattle.cm_tool.specs.steps.LeafWalks.{all_left, ArePlacedLeft, HasReadAll, TellsOf, TellsFault};
+
+use crate::fault::Fault;
+use crate::outlines::leaf_walk::LeafWalk;
+use cm_block::LineOwners;
+use cm_html::Pages;
+use cm_json::JsonWriter;
+use cm_text::Limits;
+use cm_tree::{Definitions, Owner, RawTree};
+use std::alloc::Global;
+
+/// A walk over an outline, and the JSON of what has been read.
+#[derive(Drop)]
+struct JsonWalk {
+    walk: LeafWalk,
+    json: JsonWriter,
+}
+
+impl JsonWalk {
+    /// Adds the JSON of all blocks that are left.
+    fn push_all(&mut self, owners: &[Owner]) -> Result<(), Fault>
+        requires placed { ArePlacedLeft self.old.walk.unread }
+        requires within { IsWithin self.old.json owners.now }
+        ensures whole { OnOk result (whole_with self.new.json owners.now []
+            ≡ whole_with self.old.json owners.now (all_left self.old.walk.unread)) }
+        ensures in_range { OnOk result (are_in_range (all_left self.old.walk.unread) ≡ true) }
+        ensures passes { OnOk result (HasReadAll self.old.walk self.new.walk) }
+        ensures told { IfErr result (λ fault. TellsOf self.old.walk fault
+            (leaf_depths (all_left self.old.walk.unread))) }
+    {
+        while let Some(block) = self.walk.unread.next_block() {
+            let block = self.walk.block(block)?;
+            self.json.push(owners, &block)?;
+            self.walk.reader.let_go(block);
+        }
+        Ok(())
+    }
+}
+
+/// The JSON of the blocks with the inlines of their leaves, whose lines have these owners, in pages. The
+/// inlines of one block are freed before those of the next one are read.
+///
+/// # Errors
+///
+/// As `read_leaves`.
+pub(crate) fn leaves_json(
+    alloc: Global,
+    limits: Limits,
+    definitions: Definitions,
+    blocks: RawTree,
+    owners: LineOwners,
+) -> Result<Pages, Fault>
+    ensures json { IfOk result (λ pages. pages ≡
+        json_of (with_inlines limits.rules (defined_in definitions) blocks) owners) }
+    ensures is_json { OnOk result (IsJson
+        (json_of (with_inlines limits.rules (defined_in definitions) blocks) owners)
+        (value_of (with_inlines limits.rules (defined_in definitions) blocks) owners)) }
+    ensures within { IfOk result (λ _.
+        first_leaf_past limits.inlines (with_inlines limits.rules (defined_in definitions) blocks) ≡ None) }
+    ensures told { IfErr result (λ fault. TellsFault fault (option_map faults.InlinesTooDeep
+        (first_leaf_past limits.inlines (with_inlines limits.rules (defined_in definitions) blocks)))) }
+{
+    let owners = owners.to_items(alloc)?;
+    let owners = owners.as_slice();
+    let pages = Pages::new(alloc)?;
+    let json = JsonWriter::new(pages, owners)?;
+    let walk = LeafWalk::new(alloc, limits, definitions, blocks);
+    let mut walk = JsonWalk { walk, json };
+    walk.push_all(owners)?;
+    Ok(walk.json.finish()?)
+}

@@ -1,0 +1,148 @@
+//! The plain source of an outline. Each block is freed once it is spelled.
+//!
+//! After a refusal nothing more is spelled, but all leaves are read: one that nests too deep is a fault of
+//! the text, and takes precedence. Definitions count among the leaves, so they are removed from a block only
+//! after its leaves have their numbers.
+//!
+//! Blocks are judged and spelled from inlines. Working from nodes would save making the inlines, but would
+//! need the refusals and the spelling a second time.
+ghost use Rattle.std.specs.Prelude.{◌≡◌, List, [], ◌∷◌, ◌++◌, IfOk, IfErr, OnOk, None, option_map};
+ghost use Rattle.cm_text.specs.Rules as text_rules;
+ghost use Rattle.cm_tree.specs.declared.tree.Block as trees;
+ghost use Rattle.cm_source.specs.Definitions.{without_definitions};
+ghost use Rattle.cm_tool.specs.declared.fault.Fault.TheVariants as faults;
+ghost use Rattle.cm_tool.specs.steps.PlainSources.{HasTaken, Spelled};
+ghost use Rattle.cm_tool.specs.steps.LeafWalks.{defined_in, with_inlines, leaf_depths, first_leaf_past};
+ghost use Rattle.cm_tool.specs.steps.LeafWalks.{all_left, ArePlacedLeft, HasReadAll, TellsOf, TellsFault};
+
+use crate::fault::Fault;
+use crate::outlines::leaf_walk::LeafWalk;
+use cm_inline::InlineReader;
+use cm_source::{SourceFault, Speller, Why, block_without_definitions};
+use cm_text::{Limits, NoMemory, Rules};
+use cm_tree::{Block, Definitions, RawTree};
+use std::alloc::Global;
+
+/// The source of the blocks so far, or why they can't be spelled.
+#[derive(Drop)]
+struct PlainSource {
+    speller: Speller,
+    refused: Option<Why>,
+}
+
+impl PlainSource {
+    /// The source of no blocks.
+    fn new(alloc: Global, rules: Rules) -> PlainSource
+        ensures { HasTaken rules result [] }
+    {
+        PlainSource {
+            speller: Speller::new(alloc, rules),
+            refused: None,
+        }
+    }
+
+    /// Spells one more block. After a refusal it does nothing.
+    fn push(&mut self, block: &Block) -> Result<(), NoMemory>
+        ensures { OnOk result ((rules : text_rules.Rules) (blocks : List trees.Block)
+            → HasTaken rules self.old blocks → HasTaken rules self.new (blocks ++ block.now ∷ [])) }
+    {
+        if self.refused.is_some() {
+            return Ok(());
+        }
+        match self.speller.push(block) {
+            Ok(()) => Ok(()),
+            Err(SourceFault::Unspellable { why }) => {
+                self.refused = Some(why);
+                Ok(())
+            }
+            Err(SourceFault::NoMemory) => Err(NoMemory),
+        }
+    }
+
+    /// Spells one more block without its definitions, or nothing if it is one, and frees it.
+    fn push_cleared(
+        &mut self,
+        alloc: Global,
+        reader: &mut InlineReader,
+        block: Block,
+    ) -> Result<(), NoMemory>
+        ensures { OnOk result ((rules : text_rules.Rules) (blocks : List trees.Block)
+            → HasTaken rules self.old blocks
+            → HasTaken rules self.new (blocks ++ without_definitions (block ∷ []))) }
+    {
+        if let Some(block) = block_without_definitions(alloc, block) {
+            self.push(&block)?;
+            reader.let_go(block);
+        }
+        Ok(())
+    }
+
+    /// The source of the blocks so far.
+    fn finish(self) -> Result<Result<String, Why>, NoMemory>
+        ensures { IfOk result (λ source. (rules : text_rules.Rules) (blocks : List trees.Block)
+            → HasTaken rules self blocks → Spelled rules blocks source) }
+    {
+        let PlainSource { speller, refused } = self;
+        match refused {
+            Some(why) => Ok(Err(why)),
+            None => Ok(Ok(speller.finish()?)),
+        }
+    }
+}
+
+/// A walk over an outline, and the source of what has been read.
+#[derive(Drop)]
+struct PlainSourceWalk {
+    walk: LeafWalk,
+    source: PlainSource,
+}
+
+impl PlainSourceWalk {
+    /// Spells all blocks that are left. The definitions of a block are leaves too, so they are removed after
+    /// it is read.
+    fn push_all(&mut self) -> Result<(), Fault>
+        requires { ArePlacedLeft self.old.walk.unread }
+        ensures pushed { OnOk result ((rules : text_rules.Rules) (taken : List trees.Block)
+            → HasTaken rules self.old.source taken
+            → HasTaken rules self.new.source
+            (taken ++ without_definitions (all_left self.old.walk.unread))) }
+        ensures passes { OnOk result (HasReadAll self.old.walk self.new.walk) }
+        ensures told { IfErr result (λ fault. TellsOf self.old.walk fault
+            (leaf_depths (all_left self.old.walk.unread))) }
+    {
+        while let Some(block) = self.walk.unread.next_block() {
+            let block = self.walk.block(block)?;
+            let alloc = self.walk.unread.alloc;
+            self.source
+                .push_cleared(alloc, &mut self.walk.reader, block)?;
+        }
+        Ok(())
+    }
+}
+
+/// The source of the blocks with the inlines of their leaves and without their definitions, or why they can't
+/// be spelled. The inlines of one block are freed before those of the next one are read. All leaves are read,
+/// also after a block that can't be spelled, because a leaf that is too deep takes precedence.
+///
+/// # Errors
+///
+/// As `read_leaves`.
+pub(crate) fn leaves_plain_source(
+    alloc: Global,
+    limits: Limits,
+    definitions: Definitions,
+    blocks: RawTree,
+) -> Result<Result<String, Why>, Fault>
+    ensures source { IfOk result (λ source. Spelled limits.rules
+        (without_definitions (with_inlines limits.rules (defined_in definitions) blocks)) source) }
+    ensures within { IfOk result (λ _.
+        first_leaf_past limits.inlines (with_inlines limits.rules (defined_in definitions) blocks) ≡ None) }
+    ensures told { IfErr result (λ fault. TellsFault fault (option_map faults.InlinesTooDeep
+        (first_leaf_past limits.inlines (with_inlines limits.rules (defined_in definitions) blocks)))) }
+{
+    let source = PlainSource::new(alloc, limits.rules());
+    let walk = LeafWalk::new(alloc, limits, definitions, blocks);
+    let mut walk = PlainSourceWalk { walk, source };
+    walk.push_all()?;
+    Ok(walk.source.finish()?)
+}
