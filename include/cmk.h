@@ -48,7 +48,7 @@ typedef struct cmk_options {
     bool older;     /* the older rules, as with `cmk --older` */
     bool strike;    /* text between two tildes is struck through, as with `cmk --strike` */
     bool no_html;   /* raw HTML is text, as with `cmk --no-html` */
-    bool web_links; /* links with a scheme other than http, https or mailto are text, as with `cmk --web-links` */
+    bool web_links; /* links that don't lead to the web are text, as with `cmk --web-links` */
 } cmk_options;
 
 #define CMK_OPTIONS { 0, 0, 0, false, false, false, false }
