@@ -7,12 +7,12 @@ ghost use Rattle.cm_block.specs.Level.{block_closes};
 ghost use Rattle.cm_block.specs.OpenLeaf.{run_leaves};
 ghost use Rattle.cm_block.specs.Stack.{close_leaves, own_leaf, own_leaves};
 ghost use Rattle.cm_block.specs.LeafViews.{ended};
-ghost use Rattle.cm_block.specs.steps.LeafSteps.{fence_lines, own_plain_leaf};
+ghost use Rattle.cm_block.specs.steps.LeafSteps.{underline_level, fence_lines, own_plain_leaf};
 
 use crate::leaf_block::LeafBlock;
 use crate::leaf_kind::LeafKind;
 use crate::leaf_text::LeafText;
-use crate::open_leaf::OpenLeaf;
+use crate::open_leaf::{Ending, OpenLeaf};
 use crate::owners::Owners;
 use crate::stack::Stack;
 use crate::text_runs::line_feeds;
@@ -106,29 +106,27 @@ fn put_definitions<'a>(
 fn put_content(
     source: &str,
     feeds: usize,
-    heading: Option<u8>,
+    ending: Ending,
     stack: &mut Stack,
     owners: &mut Owners,
 ) -> Result<(), RawFault>
     requires { feeds ≡ line_feeds source.now }
     ensures level { OnOk result (stack.new.level
-        ≡ close_leaves stack.old.level (content_leaf heading source.now)) }
+        ≡ close_leaves stack.old.level (content_leaf (underline_level ending) source.now)) }
     ensures frames { stack.new.frames ≡ stack.old.frames }
     ensures bare { stack.new.bare ≡ stack.old.bare }
-    ensures owners { OnOk result (owners.new ≡ own_leaves owners.old (content_leaf heading source.now)) }
+    ensures owners { OnOk result (owners.new
+        ≡ own_leaves owners.old (content_leaf (underline_level ending) source.now)) }
 {
     if source.is_empty() {
         return Ok(());
     }
-    match heading {
-        Some(number) => {
+    match ending {
+        Ending::Underline(level) => {
             owners.leaf(count_lines(feeds, 2)?)?;
-            stack.put(&LeafBlock::Heading {
-                level: number,
-                source,
-            })
+            stack.put(&LeafBlock::Heading { level, source })
         }
-        None => {
+        Ending::Plain | Ending::ClosingFence => {
             owners.leaf(count_lines(feeds, 1)?)?;
             stack.put(&LeafBlock::Paragraph { source })
         }
@@ -148,22 +146,23 @@ fn may_define(text: &str) -> bool
 fn put_run(
     alloc: Global,
     source: &LeafText,
-    heading: Option<u8>,
+    ending: Ending,
     stack: &mut Stack,
     owners: &mut Owners,
 ) -> Result<(), RawFault>
     ensures level { OnOk result (stack.new.level
-        ≡ close_leaves stack.old.level (run_leaves heading source.now)) }
+        ≡ close_leaves stack.old.level (run_leaves (underline_level ending) source.now)) }
     ensures frames { stack.new.frames ≡ stack.old.frames }
     ensures bare { stack.new.bare ≡ stack.old.bare }
-    ensures owners { OnOk result (owners.new ≡ own_leaves owners.old (run_leaves heading source.now)) }
+    ensures owners { OnOk result (owners.new
+        ≡ own_leaves owners.old (run_leaves (underline_level ending) source.now)) }
 {
     let text = trim_end(source.as_str());
     if !may_define(text) {
-        return put_content(text, source.feeds(), heading, stack, owners);
+        return put_content(text, source.feeds(), ending, stack, owners);
     }
     let (left, feeds) = put_definitions(alloc, text, source.feeds(), stack, owners)?;
-    put_content(left, feeds, heading, stack, owners)
+    put_content(left, feeds, ending, stack, owners)
 }
 
 /// Adds a code block, whose info is resolved.
@@ -184,11 +183,15 @@ fn put_code(
     stack.put(&LeafBlock::Code { info, text })
 }
 
-/// The number of lines of a fenced code block with this text. `ended` says whether it has a closing fence.
-fn fence_lines(ended: bool, text: &LeafText) -> Result<usize, RawFault>
-    ensures { IfOk result (λ lines. lines ≡ fence_lines ended text.now) }
+/// The number of lines of a fenced code block with this text and this ending.
+fn fence_lines(ending: Ending, text: &LeafText) -> Result<usize, RawFault>
+    ensures { IfOk result (λ lines. lines ≡ fence_lines ending text.now) }
 {
-    count_lines(text.feeds(), if ended { 2 } else { 1 })
+    let fences = match ending {
+        Ending::ClosingFence => 2,
+        Ending::Plain | Ending::Underline(_) => 1,
+    };
+    count_lines(text.feeds(), fences)
 }
 
 /// Adds indented code, whose lines are separated by line feeds (4.4 Indented code blocks).
@@ -223,31 +226,29 @@ fn put_html(text: &mut LeafText, stack: &mut Stack, owners: &mut Owners) -> Resu
 impl OpenLeaf {
     ghost use Rattle.cm_block.specs.steps.LeafSteps.{leaves_with};
 
-    /// Adds the leaf to the innermost level, and its lines to the owners. `heading` is the level of the
-    /// underline that closes it, `ended` whether a closing fence does. The leaf stays open: call `clear`
-    /// next.
+    /// Adds the leaf to the innermost level, and its lines to the owners. The leaf stays open: call
+    /// `clear` next.
     #[inline(always)]
     pub(crate) fn put(
         &mut self,
         alloc: Global,
-        heading: Option<u8>,
-        ended: bool,
+        ending: Ending,
         stack: &mut Stack,
         owners: &mut Owners,
     ) -> Result<(), RawFault>
         ensures level { OnOk result (stack.new.level
-            ≡ close_leaves stack.old.level (leaves_with heading ended self.old)) }
+            ≡ close_leaves stack.old.level (leaves_with ending self.old)) }
         ensures frames { stack.new.frames ≡ stack.old.frames }
         ensures bare { stack.new.bare ≡ stack.old.bare }
         ensures owners { OnOk result (owners.new
-            ≡ own_leaves owners.old (leaves_with heading ended self.old)) }
+            ≡ own_leaves owners.old (leaves_with ending self.old)) }
     {
         match self.kind {
             LeafKind::Nothing => Ok(()),
-            LeafKind::Run => put_run(alloc, &self.text, heading, stack, owners),
+            LeafKind::Run => put_run(alloc, &self.text, ending, stack, owners),
             LeafKind::Code => put_indented(&mut self.text, stack, owners),
             LeafKind::Fence { .. } => {
-                let lines = fence_lines(ended, &self.text)?;
+                let lines = fence_lines(ending, &self.text)?;
                 put_code(&self.info, self.text.as_str(), lines, stack, owners)
             }
             LeafKind::Html { .. } => put_html(&mut self.text, stack, owners),

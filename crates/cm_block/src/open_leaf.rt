@@ -28,14 +28,24 @@ pub(crate) struct OpenLeaf {
     ghost empty: { kind ≡ Nothing → text ≡ [] },
 }
 
+/// What ends the open leaf.
+#[derive(Clone, Copy, Debug)]
+pub(crate) enum Ending {
+    /// No line besides its content.
+    Plain,
+    /// An underline, which makes a run a heading of this level.
+    Underline(u8),
+    /// A closing fence.
+    ClosingFence,
+}
+
 /// What a line is to the open leaf.
-#[derive(Debug, Drop)]
+#[derive(Clone, Copy, Debug)]
 pub(crate) enum LeafLine {
     /// It is one of its lines, and the leaf stays open.
     Stays,
-    /// It is its last line: an underline, which makes a run a heading of this level, or a closing fence, or
-    /// the end of HTML.
-    Last { heading: Option<u8>, ended: bool },
+    /// It is its last line: an underline, a closing fence, or the end of HTML.
+    Last(Ending),
     /// It doesn't belong to the leaf.
     Leaves,
 }
@@ -143,10 +153,7 @@ impl OpenLeaf {
                     Ok(LeafLine::Stays)
                 }
                 NextLine::Ends => Ok(LeafLine::Leaves),
-                NextLine::Underlines(level) => Ok(LeafLine::Last {
-                    heading: Some(level),
-                    ended: false,
-                }),
+                NextLine::Underlines(level) => Ok(LeafLine::Last(Ending::Underline(level))),
             },
             LeafKind::Code => {
                 if line.add_code(&mut self.text, &mut self.blank_lines)? {
@@ -156,10 +163,7 @@ impl OpenLeaf {
             }
             LeafKind::Fence { kind, columns } => {
                 if line.closes_fence(kind) {
-                    return Ok(LeafLine::Last {
-                        heading: None,
-                        ended: true,
-                    });
+                    return Ok(LeafLine::Last(Ending::ClosingFence));
                 }
                 line.add_fenced(columns, &mut self.text)?;
                 Ok(LeafLine::Stays)
@@ -171,10 +175,7 @@ impl OpenLeaf {
                 let ends = line.ends_html(kind);
                 line.add_html(&mut self.text)?;
                 if ends {
-                    return Ok(LeafLine::Last {
-                        heading: None,
-                        ended: false,
-                    });
+                    return Ok(LeafLine::Last(Ending::Plain));
                 }
                 Ok(LeafLine::Stays)
             }

@@ -30,7 +30,7 @@ use crate::containers::Innermost;
 use crate::counted_line::{CountedLine, CountedLines, FirstLine, LeafStart};
 use crate::fault::BlockFault;
 use crate::leaf_kind::LeafKind;
-use crate::open_leaf::{LeafLine, OpenLeaf};
+use crate::open_leaf::{Ending, LeafLine, OpenLeaf};
 use crate::owner_runs::LineOwners;
 use crate::owners::Owners;
 use crate::stack::Stack;
@@ -92,14 +92,13 @@ impl BlockParser {
         }
     }
 
-    /// Adds the open leaf, closed by an underline of this level or by none, and by a closing fence or by
-    /// none.
+    /// Adds the open leaf, which ends like this.
     #[inline(always)]
-    fn put_leaf(&mut self, heading: Option<u8>, ended: bool) -> Result<(), RawFault>
+    fn put_leaf(&mut self, ending: Ending) -> Result<(), RawFault>
         ensures level { OnOk result (self.new.stack.level ≡ close_leaves self.old.stack.level
-            (leaves_with heading ended self.old.leaf)) }
+            (leaves_with ending self.old.leaf)) }
         ensures owners { OnOk result (self.new.owners ≡ own_leaves self.old.owners
-            (leaves_with heading ended self.old.leaf)) }
+            (leaves_with ending self.old.leaf)) }
         ensures leaf { OnOk result (leaf_of self.new.leaf ≡ no_leaf) }
         ensures frames { self.new.stack.frames ≡ self.old.stack.frames }
         ensures bare { self.new.stack.bare ≡ self.old.stack.bare }
@@ -107,13 +106,8 @@ impl BlockParser {
         ensures limits { self.new.limits ≡ self.old.limits }
         ensures fault { self.new.fault ≡ self.old.fault }
     {
-        self.leaf.put(
-            self.alloc,
-            heading,
-            ended,
-            &mut self.stack,
-            &mut self.owners,
-        )?;
+        self.leaf
+            .put(self.alloc, ending, &mut self.stack, &mut self.owners)?;
         self.leaf.clear();
         Ok(())
     }
@@ -137,7 +131,7 @@ impl BlockParser {
             return Ok(());
         }
         let blank_lines = self.leaf.blank_lines();
-        self.put_leaf(None, false)?;
+        self.put_leaf(Ending::Plain)?;
         if blank_lines > 0 {
             self.stack.push_blank();
             self.owners
@@ -187,7 +181,7 @@ impl BlockParser {
         let rules = self.limits.rules();
         match line.begin_leaf(self.alloc, rules, &mut self.leaf, start)? {
             Some(FirstLine::Opens) => Ok(()),
-            Some(FirstLine::Ends) => self.put_leaf(None, false),
+            Some(FirstLine::Ends) => self.put_leaf(Ending::Plain),
             None => Ok(()),
         }
     }
@@ -246,7 +240,7 @@ impl BlockParser {
         }
         match self.leaf.take_line(self.limits.rules(), line)? {
             LeafLine::Stays => {}
-            LeafLine::Last { heading, ended } => self.put_leaf(heading, ended)?,
+            LeafLine::Last(ending) => self.put_leaf(ending)?,
             LeafLine::Leaves => return Ok(false),
         }
         Ok(true)

@@ -17,6 +17,8 @@ use Rattle.cm_scan.specs.blocks.Parts.{LeafPart, html, leaf_block, info_of}
 use Rattle.cm_scan.specs.blocks.Blocks.{line_feeds, NextLine, next_line, closes_fence, code_line}
 use Rattle.cm_block.proofs.lemmas.FeedLemmas.{feeds_append, feeds_ended}
 use Rattle.cm_block.specs.declared.open_leaf.OpenLeaf.{OpenLeaf}
+use Rattle.cm_block.specs.declared.open_leaf.Ending.{Ending}
+use Rattle.cm_block.specs.declared.open_leaf.Ending.TheVariants.{Plain}
 use Rattle.cm_block.specs.declared.leaf_kind.LeafKind.{LeafKind}
 use Rattle.cm_block.specs.declared.leaf_kind.LeafKind.TheVariants as leaf
 use Rattle.cm_block.specs.OpenLeaf.{no_leaf, open_text, open_code, open_fence, open_html, closed_leaves, LeafLine, stays_open, is_last, begins_leaf, begin_of_start, line_of_text, line_of_code, line_of_fence, line_of_html, line_of_leaf}
@@ -69,13 +71,12 @@ pub line_by_kind : (rules : Rules) (now : OpenLeaf) (kind : LeafKind) (line : Li
     → line_of_leaf rules (leaf_with kind now.text now.blank_lines (string_bytes now.info)) line ≡ line_of_leaf rules (leaf_of now) line
 line_by_kind rules now kind line e = ap (λ k. line_of_leaf rules (leaf_with k now.text now.blank_lines (string_bytes now.info)) line) (sym e)
 
-pub leaves_by_kind : (level : Option ℕ) (has_end : Bool) (now : OpenLeaf) (kind : LeafKind) → now.kind ≡ kind
-    → leaves_of_kind level has_end kind now.text (string_bytes now.info) ≡ leaves_with level has_end now
-leaves_by_kind level has_end now kind e = ap (λ k. leaves_of_kind level has_end k now.text (string_bytes now.info)) (sym e)
+pub leaves_by_kind : (ending : Ending) (now : OpenLeaf) (kind : LeafKind) → now.kind ≡ kind → leaves_of_kind ending kind now.text (string_bytes now.info) ≡ leaves_with ending now
+leaves_by_kind ending now kind e = ap (λ k. leaves_of_kind ending k now.text (string_bytes now.info)) (sym e)
 
 -- closing
 
-closes-kind : (kind : LeafKind) (text blanks info : List ℕ) → leaves_of_kind None false kind text info ≡ closed_leaves (leaf_with kind text blanks info)
+closes-kind : (kind : LeafKind) (text blanks info : List ℕ) → leaves_of_kind Plain kind text info ≡ closed_leaves (leaf_with kind text blanks info)
 unfolding closed_leaves
 closes-kind leaf.Nothing text blanks info = refl
 closes-kind leaf.Run text blanks info = refl
@@ -83,7 +84,7 @@ closes-kind leaf.Code text blanks info = refl
 closes-kind (leaf.Fence kind columns) text blanks info = refl
 closes-kind (leaf.Html kind) text blanks info = refl
 
-pub closes : (now : OpenLeaf) → leaves_with None false now ≡ closed_leaves (leaf_of now)
+pub closes : (now : OpenLeaf) → leaves_with Plain now ≡ closed_leaves (leaf_of now)
 closes now = closes-kind now.kind now.text now.blank_lines (string_bytes now.info)
 
 -- a line after indented code

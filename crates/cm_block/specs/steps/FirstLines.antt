@@ -10,6 +10,7 @@ use Rattle.cm_block.specs.declared.counted_line.Begins.TheVariants.{Nothing, Quo
 use Rattle.cm_block.specs.declared.counted_line.first_line.FirstLine.{FirstLine}
 use Rattle.cm_block.specs.declared.counted_line.first_line.FirstLine.TheVariants.{Opens, Ends}
 use Rattle.cm_block.specs.declared.open_leaf.OpenLeaf.{OpenLeaf}
+use Rattle.cm_block.specs.declared.open_leaf.Ending.TheVariants.{Plain}
 use Rattle.cm_block.specs.OpenLeaf.{LeafLine, stays_open, is_last, begins_quote, begins_item, begin_of_start, begin_of}
 use Rattle.cm_block.specs.LeafViews.{leaf_of}
 use Rattle.cm_block.specs.steps.StartViews.{seen}
@@ -18,7 +19,7 @@ use Rattle.cm_block.specs.steps.LeafSteps.{leaves_with}
 -- what it makes, where this is open then
 abbrev pub first_of : FirstLine → OpenLeaf → LeafLine
 first_of Opens now = stays_open (leaf_of now)
-first_of Ends now = is_last (leaves_with None false now)
+first_of Ends now = is_last (leaves_with Plain now)
 
 -- the line starts with the marker of a quote or an item
 abbrev pub begins_container : Start → Bool

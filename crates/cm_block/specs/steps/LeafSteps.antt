@@ -15,6 +15,8 @@ use Rattle.cm_block.specs.declared.text_runs.NextLine.TheVariants.{GoesOn, Ends,
 use Rattle.cm_block.specs.declared.leaf_kind.LeafKind.{LeafKind}
 use Rattle.cm_block.specs.declared.leaf_kind.LeafKind.TheVariants.{Nothing, Run, Code, Fence, Html}
 use Rattle.cm_block.specs.declared.open_leaf.OpenLeaf.{OpenLeaf}
+use Rattle.cm_block.specs.declared.open_leaf.Ending.{Ending}
+use Rattle.cm_block.specs.declared.open_leaf.Ending.TheVariants.{Plain, Underline, ClosingFence}
 use Rattle.cm_block.specs.declared.open_leaf.LeafLine.{LeafLine}
 use Rattle.cm_block.specs.declared.open_leaf.LeafLine.TheVariants.{Stays, Last, Leaves}
 use Rattle.cm_block.specs.OpenLeaf as spec
@@ -34,27 +36,34 @@ level_above false level = None
 abbrev pub heading_level : List ℕ → LineView → Option ℕ
 heading_level source line = level_above (not (is_empty (rest_of source))) (underline_of line)
 
--- a fence has a line, its text's lines, and one more if it has ended
-abbrev pub fence_lines : (ended : Bool) → List ℕ → ℕ
-fence_lines true text = suc (suc (line_feeds text))
-fence_lines false text = suc (line_feeds text)
+-- the level of an underline
+abbrev pub underline_level : Ending → Option ℕ
+underline_level Plain = None
+underline_level (Underline level) = Some level
+underline_level ClosingFence = None
+
+-- a fenced code block has its opening fence, its text's lines, and its closing fence if that ends it
+abbrev pub fence_lines : Ending → List ℕ → ℕ
+fence_lines Plain text = suc (line_feeds text)
+fence_lines (Underline level) text = suc (line_feeds text)
+fence_lines ClosingFence text = suc (suc (line_feeds text))
 
 -- the leaves that an open one of this kind makes with this text and this info string
-abbrev pub leaves_of_kind : Option ℕ → (has_end : Bool) → LeafKind → (text info : List ℕ) → List (LeafPart × ℕ)
-leaves_of_kind level has_end Nothing text info = []
-leaves_of_kind level has_end Run text info = run_leaves level text
-leaves_of_kind level has_end Code text info = (code [] (ended text), suc (line_feeds text)) ∷ []
-leaves_of_kind level has_end (Fence kind columns) text info = (code info text, fence_lines has_end text) ∷ []
-leaves_of_kind level has_end (Html kind) text info = (html (ended text), suc (line_feeds text)) ∷ []
+abbrev pub leaves_of_kind : Ending → LeafKind → (text info : List ℕ) → List (LeafPart × ℕ)
+leaves_of_kind ending Nothing text info = []
+leaves_of_kind ending Run text info = run_leaves (underline_level ending) text
+leaves_of_kind ending Code text info = (code [] (ended text), suc (line_feeds text)) ∷ []
+leaves_of_kind ending (Fence kind columns) text info = (code info text, fence_lines ending text) ∷ []
+leaves_of_kind ending (Html kind) text info = (html (ended text), suc (line_feeds text)) ∷ []
 
--- the leaves that the open one makes: a run with an underline or none, a fence with a closing one or none
-abbrev pub leaves_with : Option ℕ → (has_end : Bool) → OpenLeaf → List (LeafPart × ℕ)
-leaves_with level has_end leaf = leaves_of_kind level has_end leaf.kind leaf.text (string_bytes leaf.info)
+-- the leaves that the open one makes where it ends like this
+abbrev pub leaves_with : Ending → OpenLeaf → List (LeafPart × ℕ)
+leaves_with ending leaf = leaves_of_kind ending leaf.kind leaf.text (string_bytes leaf.info)
 
 -- what a line is to the open leaf, which this is then
 abbrev pub taken_of : LeafLine → OpenLeaf → Option spec.LeafLine
 taken_of Stays now = Some (stays_open (leaf_of now))
-taken_of (Last level has_end) now = Some (is_last (leaves_with level has_end now))
+taken_of (Last ending) now = Some (is_last (leaves_with ending now))
 taken_of Leaves now = None
 
 -- a line that is none of the leaf leaves it as it is

@@ -13,21 +13,21 @@ use Rattle.cm_block.proofs.open_leaf.OpenLeaf.put.Goals as goal
 pub returns-in-Nothing-clause-level : goal.returns-in-Nothing-clause-level
 returns-in-Nothing-clause-level c =
     let level = c.args.stack.now.level in
-    none_closes level ∙ ap (close_leaves level) (leaves_by_kind c.args.heading c.args.ended c.args.self.now _ c.in-Nothing.is)
+    none_closes level ∙ ap (close_leaves level) (leaves_by_kind c.args.ending c.args.self.now _ c.in-Nothing.is)
 
 pub returns-in-Nothing-clause-owners : goal.returns-in-Nothing-clause-owners
 returns-in-Nothing-clause-owners c =
     let owned = c.args.owners.now in
-    none_owns owned ∙ ap (own_leaves owned) (leaves_by_kind c.args.heading c.args.ended c.args.self.now _ c.in-Nothing.is)
+    none_owns owned ∙ ap (own_leaves owned) (leaves_by_kind c.args.ending c.args.self.now _ c.in-Nothing.is)
 
 pub returns-in-Run-clause-level : goal.returns-in-Run-clause-level
 returns-in-Run-clause-level c =
-    on_ok_weaker c.put_run.result (λ put. put ∙ ap (close_leaves c.args.stack.now.level) (leaves_by_kind c.args.heading c.args.ended c.args.self.now _ c.in-Run.is))
+    on_ok_weaker c.put_run.result (λ put. put ∙ ap (close_leaves c.args.stack.now.level) (leaves_by_kind c.args.ending c.args.self.now _ c.in-Run.is))
     c.put_run.ensures.level
 
 pub returns-in-Run-clause-owners : goal.returns-in-Run-clause-owners
 returns-in-Run-clause-owners c =
-    on_ok_weaker c.put_run.result (λ put. put ∙ ap (own_leaves c.args.owners.now) (leaves_by_kind c.args.heading c.args.ended c.args.self.now _ c.in-Run.is))
+    on_ok_weaker c.put_run.result (λ put. put ∙ ap (own_leaves c.args.owners.now) (leaves_by_kind c.args.ending c.args.self.now _ c.in-Run.is))
     c.put_run.ensures.owners
 
 pub returns-in-Code-clause-level : goal.returns-in-Code-clause-level
@@ -37,7 +37,7 @@ returns-in-Code-clause-level c =
     on_ok_weaker c.put_indented.result (λ put.
     put
     ∙ one_closes level (code [] (ended text)) (suc (line_feeds text))
-    ∙ ap (close_leaves level) (leaves_by_kind c.args.heading c.args.ended c.args.self.now _ c.in-Code.is)) c.put_indented.ensures.level
+    ∙ ap (close_leaves level) (leaves_by_kind c.args.ending c.args.self.now _ c.in-Code.is)) c.put_indented.ensures.level
 
 pub returns-in-Code-clause-owners : goal.returns-in-Code-clause-owners
 returns-in-Code-clause-owners c =
@@ -46,7 +46,7 @@ returns-in-Code-clause-owners c =
     on_ok_weaker c.put_indented.result (λ put.
     put
     ∙ one_owns owned (code [] (ended text)) (suc (line_feeds text)) refl
-    ∙ ap (own_leaves owned) (leaves_by_kind c.args.heading c.args.ended c.args.self.now _ c.in-Code.is)) c.put_indented.ensures.owners
+    ∙ ap (own_leaves owned) (leaves_by_kind c.args.ending c.args.self.now _ c.in-Code.is)) c.put_indented.ensures.owners
 
 pub returns-in_ok-lines-in-Fence-clause-level : goal.returns-in_ok-lines-in-Fence-clause-level
 returns-in_ok-lines-in-Fence-clause-level c =
@@ -57,8 +57,8 @@ returns-in_ok-lines-in-Fence-clause-level c =
     put
     ∙ ap (λ i. block_closes level (leaf_block (code i c.as_str.result.now))) c.deref.ensures
     ∙ ap (λ t. block_closes level (leaf_block (code info t))) c.as_str.ensures
-    ∙ one_closes level (code info text) (fence_lines c.args.ended text)
-    ∙ ap (close_leaves level) (leaves_by_kind c.args.heading c.args.ended c.args.self.now _ c.in-Fence.is)) c.put_code.ensures.level
+    ∙ one_closes level (code info text) (fence_lines c.args.ending text)
+    ∙ ap (close_leaves level) (leaves_by_kind c.args.ending c.args.self.now _ c.in-Fence.is)) c.put_code.ensures.level
 
 pub returns-in_ok-lines-in-Fence-clause-owners : goal.returns-in_ok-lines-in-Fence-clause-owners
 returns-in_ok-lines-in-Fence-clause-owners c =
@@ -67,8 +67,8 @@ returns-in_ok-lines-in-Fence-clause-owners c =
     on_ok_weaker c.put_code.result (λ put.
     put
     ∙ ap (own_plain_leaf owned) c.in_ok-lines-in-Fence.ensures
-    ∙ one_owns owned (code (string_bytes c.args.self.now.info) text) (fence_lines c.args.ended text) refl
-    ∙ ap (own_leaves owned) (leaves_by_kind c.args.heading c.args.ended c.args.self.now _ c.in-Fence.is)) c.put_code.ensures.owners
+    ∙ one_owns owned (code (string_bytes c.args.self.now.info) text) (fence_lines c.args.ending text) refl
+    ∙ ap (own_leaves owned) (leaves_by_kind c.args.ending c.args.self.now _ c.in-Fence.is)) c.put_code.ensures.owners
 
 pub returns-in-Html-clause-level : goal.returns-in-Html-clause-level
 returns-in-Html-clause-level c =
@@ -77,7 +77,7 @@ returns-in-Html-clause-level c =
     on_ok_weaker c.put_html.result (λ put.
     put
     ∙ one_closes level (html (ended text)) (suc (line_feeds text))
-    ∙ ap (close_leaves level) (leaves_by_kind c.args.heading c.args.ended c.args.self.now _ c.in-Html.is)) c.put_html.ensures.level
+    ∙ ap (close_leaves level) (leaves_by_kind c.args.ending c.args.self.now _ c.in-Html.is)) c.put_html.ensures.level
 
 pub returns-in-Html-clause-owners : goal.returns-in-Html-clause-owners
 returns-in-Html-clause-owners c =
@@ -86,4 +86,4 @@ returns-in-Html-clause-owners c =
     on_ok_weaker c.put_html.result (λ put.
     put
     ∙ one_owns owned (html (ended text)) (suc (line_feeds text)) refl
-    ∙ ap (own_leaves owned) (leaves_by_kind c.args.heading c.args.ended c.args.self.now _ c.in-Html.is)) c.put_html.ensures.owners
+    ∙ ap (own_leaves owned) (leaves_by_kind c.args.ending c.args.self.now _ c.in-Html.is)) c.put_html.ensures.owners

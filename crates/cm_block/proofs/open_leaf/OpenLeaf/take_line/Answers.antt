@@ -1,4 +1,4 @@
-use Rattle.std.proofs.Common.{[], ◌∷◌, ◌++◌, None, Some, suc, true, false, string_bytes, sym, ap, ap₂, ◌∙◌}
+use Rattle.std.proofs.Common.{[], ◌∷◌, ◌++◌, Some, suc, true, false, string_bytes, sym, ap, ap₂, ◌∙◌}
 use Rattle.cm_text.specs.Indentation.{strip_columns}
 use Rattle.cm_text.specs.Views.{seen_view}
 use Rattle.cm_text.specs.declared.view.View.{View}
@@ -8,6 +8,7 @@ use Rattle.cm_scan.specs.blocks.HtmlBlocks.{is_html_end}
 use Rattle.cm_scan.specs.blocks.HtmlKinds.{kind_of}
 use Rattle.cm_scan.specs.blocks.Parts.{html}
 use Rattle.cm_scan.specs.blocks.Blocks.{line_feeds, add_text, next_line}
+use Rattle.cm_block.specs.declared.open_leaf.Ending.TheVariants.{Plain, Underline, ClosingFence}
 use Rattle.cm_block.specs.OpenLeaf.{open_text, open_fence, open_html, stays_open, is_last}
 use Rattle.cm_block.specs.LeafViews.{ended, leaf_with}
 use Rattle.cm_block.specs.steps.LeafSteps.{leaves_of_kind}
@@ -37,7 +38,7 @@ returns-in-Ends-clause-line c =
 pub returns-in-Underlines-clause-line : goal.returns-in-Underlines-clause-line
 returns-in-Underlines-clause-line c =
     let line = seen_view c.args.line.now.rest in
-    ap (λ k. Some (is_last (leaves_of_kind (Some c.in-Underlines.level) false k c.args.self.now.text (string_bytes c.args.self.now.info)))) c.in-Run.is
+    ap (λ k. Some (is_last (leaves_of_kind (Underline c.in-Underlines.level) k c.args.self.now.text (string_bytes c.args.self.now.info)))) c.in-Run.is
     ∙ text_line _ c.args.self.now.text line _ (c.in-Underlines.ensures.next ∙ ap (λ t. next_line c.args.rules t line) c.as_str.ensures)
     ∙ line_by_kind c.args.rules c.args.self.now _ line c.in-Run.is
 
@@ -47,7 +48,7 @@ returns-then-closes_fence-clause-line c =
     let kind = c.in-Fence.kind in
     let info = string_bytes c.args.self.now.info in
     let text = c.args.self.now.text in
-    ap (λ k. Some (is_last (leaves_of_kind None true k text info))) c.in-Fence.is
+    ap (λ k. Some (is_last (leaves_of_kind ClosingFence k text info))) c.in-Fence.is
     ∙ fence_line _ (record { marker = kind.marker; count = kind.count; info = info }) c.in-Fence.columns text (suc (line_feeds text)) line true (c.if-closes_fence.ensures.closes info)
     ∙ line_by_kind c.args.rules c.args.self.now _ line c.in-Fence.is
 
@@ -79,7 +80,7 @@ returns-then-ends-clause-line c =
     let left = c.if-leaves_html.ensures.same in
     let bytes = added.text ∙ ap (λ (v : View). text ++ 10 ∷ (seen_view v).text) (c.if-ends.ensures.read.same ∙ left) in
     let ends = c.if-ends.ensures.ends ∙ ap (λ (v : View). is_html_end (kind_of c.in-Html.kind) (seen_view v).text) left in
-    ap (λ k. Some (is_last (leaves_of_kind None false k c.add_html.new.text (string_bytes c.args.self.now.info)))) c.in-Html.is
+    ap (λ k. Some (is_last (leaves_of_kind Plain k c.add_html.new.text (string_bytes c.args.self.now.info)))) c.in-Html.is
     ∙ ap₂ (λ t n. Some (is_last ((html t, suc n) ∷ []))) (one_more text _ line.text bytes) added.feeds
     ∙ html_line _ (kind_of c.in-Html.kind) (ended text) (suc (line_feeds text)) line true (sym c.if-leaves_html.ensures.leaves) ends
     ∙ line_by_kind c.args.rules c.args.self.now _ line c.in-Html.is

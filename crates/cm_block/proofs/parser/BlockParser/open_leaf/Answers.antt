@@ -1,8 +1,9 @@
-use Rattle.std.proofs.Common.{◌≡◌, ◌∙◌, None, false, sym, ap, ap₂, subst}
+use Rattle.std.proofs.Common.{◌≡◌, ◌∙◌, sym, ap, ap₂, subst}
 use Rattle.std.proofs.lemmas.Result.{on_ok_weaker}
 use Rattle.std.specs.Option.{IfSome}
 use Rattle.cm_text.specs.Views.{seen_view}
 use Rattle.cm_text.specs.declared.view.View.{View}
+use Rattle.cm_block.specs.declared.open_leaf.Ending.TheVariants.{Plain}
 use Rattle.cm_block.specs.OpenLeaf.{stays_open, is_last, begins_leaf, begin_of_start}
 use Rattle.cm_block.specs.Level.{block_opens}
 use Rattle.cm_block.specs.Stack.{close_leaves, own_leaves}
@@ -42,7 +43,7 @@ returns-in-Some-Ends-clause-pushed c =
     let now = c.begin_leaf.new.leaf in
     let start = seen c.args.start.now.found in
     let after = c.put_leaf.new.self in
-    let leaves = leaves_with None false now in
+    let leaves = leaves_with Plain now in
     let opened = c.in_ok-open_block.ensures in
     let whole = c.in_ok-put_whole.ensures in
     let put = c.put_leaf.ensures in

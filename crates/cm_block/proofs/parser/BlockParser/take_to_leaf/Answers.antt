@@ -24,7 +24,7 @@ pub returns-in_ok-put_leaf-in-Last-clause-taken : goal.returns-in_ok-put_leaf-in
 returns-in_ok-put_leaf-in-Last-clause-taken c =
     let s = c.args.self.now in
     let y = c.take_line.new.self in
-    let leaves = leaves_with c.in-Last.heading c.in-Last.ended y in
+    let leaves = leaves_with c.in-Last.ending y in
     let put = c.in_ok-put_leaf-in-Last.ensures in (
       omega (arith, c.depth.ensures, c.if-depth.false),
       (
