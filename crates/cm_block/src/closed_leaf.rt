@@ -1,4 +1,4 @@
-//! Closed leaf blocks, and how they are added to their level.
+//! How a leaf block that closes is added to its level.
 ghost use Rattle.std.specs.Prelude.{◌≡◌, ◌+◌, ◌<◌, ◌≤◌, ◌^◌, [], suc, length, drop, false, None, IfOk, OnOk};
 ghost use Rattle.cm_block.specs.Prelude.{trim_end, definitions_of, link_definition, leaf_block, definition};
 ghost use Rattle.cm_block.specs.Prelude.{code, html};
@@ -10,9 +10,8 @@ ghost use Rattle.cm_block.specs.LeafViews.{ended};
 ghost use Rattle.cm_block.specs.steps.LeafSteps.{underline_level, fence_lines, own_plain_leaf};
 
 use crate::leaf_block::LeafBlock;
-use crate::leaf_kind::LeafKind;
 use crate::leaf_text::LeafText;
-use crate::open_leaf::{Ending, OpenLeaf};
+use crate::open_leaf::Ending;
 use crate::owners::Owners;
 use crate::stack::Stack;
 use crate::text_runs::line_feeds;
@@ -143,7 +142,7 @@ fn may_define(text: &str) -> bool
 
 /// Adds the leaves of a run: the definitions at its start, and the rest.
 #[inline(always)]
-fn put_run(
+pub(crate) fn put_run(
     alloc: Global,
     source: &LeafText,
     ending: Ending,
@@ -194,8 +193,30 @@ fn fence_lines(ending: Ending, text: &LeafText) -> Result<usize, RawFault>
     count_lines(text.feeds(), fences)
 }
 
+/// Adds fenced code, each of whose lines has a line feed (4.5 Fenced code blocks).
+pub(crate) fn put_fenced(
+    info: &str,
+    text: &LeafText,
+    ending: Ending,
+    stack: &mut Stack,
+    owners: &mut Owners,
+) -> Result<(), RawFault>
+    ensures level { OnOk result (stack.new.level
+        ≡ block_closes stack.old.level (leaf_block (code info.now text.now))) }
+    ensures frames { stack.new.frames ≡ stack.old.frames }
+    ensures bare { stack.new.bare ≡ stack.old.bare }
+    ensures owners { OnOk result (owners.new ≡ own_plain_leaf owners.old (fence_lines ending text.now)) }
+{
+    let lines = fence_lines(ending, text)?;
+    put_code(info, text.as_str(), lines, stack, owners)
+}
+
 /// Adds indented code, whose lines are separated by line feeds (4.4 Indented code blocks).
-fn put_indented(text: &mut LeafText, stack: &mut Stack, owners: &mut Owners) -> Result<(), RawFault>
+pub(crate) fn put_indented(
+    text: &mut LeafText,
+    stack: &mut Stack,
+    owners: &mut Owners,
+) -> Result<(), RawFault>
     ensures level { OnOk result (stack.new.level
         ≡ block_closes stack.old.level (leaf_block (code [] (ended text.old)))) }
     ensures frames { stack.new.frames ≡ stack.old.frames }
@@ -208,7 +229,11 @@ fn put_indented(text: &mut LeafText, stack: &mut Stack, owners: &mut Owners) -> 
 }
 
 /// Adds HTML, whose lines are separated by line feeds (4.6 HTML blocks).
-fn put_html(text: &mut LeafText, stack: &mut Stack, owners: &mut Owners) -> Result<(), RawFault>
+pub(crate) fn put_html(
+    text: &mut LeafText,
+    stack: &mut Stack,
+    owners: &mut Owners,
+) -> Result<(), RawFault>
     ensures level { OnOk result (stack.new.level
         ≡ block_closes stack.old.level (leaf_block (html (ended text.old)))) }
     ensures frames { stack.new.frames ≡ stack.old.frames }
@@ -221,37 +246,4 @@ fn put_html(text: &mut LeafText, stack: &mut Stack, owners: &mut Owners) -> Resu
     stack.put(&LeafBlock::Html {
         text: text.as_str(),
     })
-}
-
-impl OpenLeaf {
-    ghost use Rattle.cm_block.specs.steps.LeafSteps.{leaves_with};
-
-    /// Adds the leaf to the innermost level, and its lines to the owners. The leaf stays open: call
-    /// `clear` next.
-    #[inline(always)]
-    pub(crate) fn put(
-        &mut self,
-        alloc: Global,
-        ending: Ending,
-        stack: &mut Stack,
-        owners: &mut Owners,
-    ) -> Result<(), RawFault>
-        ensures level { OnOk result (stack.new.level
-            ≡ close_leaves stack.old.level (leaves_with ending self.old)) }
-        ensures frames { stack.new.frames ≡ stack.old.frames }
-        ensures bare { stack.new.bare ≡ stack.old.bare }
-        ensures owners { OnOk result (owners.new
-            ≡ own_leaves owners.old (leaves_with ending self.old)) }
-    {
-        match self.kind {
-            LeafKind::Nothing => Ok(()),
-            LeafKind::Run => put_run(alloc, &self.text, ending, stack, owners),
-            LeafKind::Code => put_indented(&mut self.text, stack, owners),
-            LeafKind::Fence { .. } => {
-                let lines = fence_lines(ending, &self.text)?;
-                put_code(&self.info, self.text.as_str(), lines, stack, owners)
-            }
-            LeafKind::Html { .. } => put_html(&mut self.text, stack, owners),
-        }
-    }
 }

@@ -1,4 +1,4 @@
-//! The leaf block that is open, and what one more line does to it (chapter 4).
+//! The leaf block that is open: what one more line does to it, and how it closes (chapter 4).
 //!
 //! Its texts are fields of their own, so its kind owns nothing and is copied. The next leaf reuses the memory
 //! of a closed one, so most leaves allocate nothing.
@@ -7,12 +7,16 @@ ghost use Rattle.cm_block.specs.Prelude.{seen_view, is_blank, ends_at_blank_line
 ghost use Rattle.cm_block.specs.declared.leaf_kind.LeafKind.TheVariants.{Nothing};
 ghost use Rattle.cm_block.specs.steps.LineTests.{Tested};
 
+use crate::closed_leaf::{put_fenced, put_html, put_indented, put_run};
 use crate::counted_line::{CountedLine, CountedLines};
 use crate::leaf_kind::LeafKind;
 use crate::leaf_text::LeafText;
+use crate::owners::Owners;
+use crate::stack::Stack;
 use crate::text_runs::{NextLine, next_line};
 use cm_scan::HtmlKind;
 use cm_text::Rules;
+use cm_tree::RawFault;
 use std::alloc::{AllocError, Global};
 
 /// The leaf block that is open. Its lines are counted by the line feeds of its texts. If no leaf is open, it
@@ -73,7 +77,8 @@ impl OpenLeaf {
     ghost use Rattle.cm_block.specs.OpenLeaf.{is_open_text, line_of_leaf};
     ghost use Rattle.cm_block.specs.steps.TextRuns.{add_lines};
     ghost use Rattle.cm_block.specs.LeafViews.{leaf_of};
-    ghost use Rattle.cm_block.specs.steps.LeafSteps.{taken_of, Left};
+    ghost use Rattle.cm_block.specs.Stack.{close_leaves, own_leaves};
+    ghost use Rattle.cm_block.specs.steps.LeafSteps.{taken_of, Left, leaves_with};
     ghost use Rattle.cm_block.specs.declared.open_leaf.LeafLine.TheVariants.{Leaves};
 
     /// No leaf. It takes no memory.
@@ -86,15 +91,6 @@ impl OpenLeaf {
             blank_lines: LeafText::new(alloc),
             info: String::new(alloc),
         }
-    }
-
-    /// Closes the leaf, and keeps the memory of its text.
-    #[inline(always)]
-    pub(crate) fn clear(&mut self)
-        ensures { leaf_of self.new ≡ no_leaf }
-    {
-        self.text.clear();
-        self.kind = LeafKind::Nothing;
     }
 
     /// Whether a lazy continuation line can follow.
@@ -180,5 +176,54 @@ impl OpenLeaf {
                 Ok(LeafLine::Stays)
             }
         }
+    }
+
+    /// Adds the leaf, with this ending, to the innermost level, and its lines to the owners.
+    #[inline(always)]
+    fn put(
+        &mut self,
+        alloc: Global,
+        ending: Ending,
+        stack: &mut Stack,
+        owners: &mut Owners,
+    ) -> Result<(), RawFault>
+        ensures level { OnOk result (stack.new.level
+            ≡ close_leaves stack.old.level (leaves_with ending self.old)) }
+        ensures frames { stack.new.frames ≡ stack.old.frames }
+        ensures bare { stack.new.bare ≡ stack.old.bare }
+        ensures owners { OnOk result (owners.new
+            ≡ own_leaves owners.old (leaves_with ending self.old)) }
+    {
+        match self.kind {
+            LeafKind::Nothing => Ok(()),
+            LeafKind::Run => put_run(alloc, &self.text, ending, stack, owners),
+            LeafKind::Code => put_indented(&mut self.text, stack, owners),
+            LeafKind::Fence { .. } => put_fenced(&self.info, &self.text, ending, stack, owners),
+            LeafKind::Html { .. } => put_html(&mut self.text, stack, owners),
+        }
+    }
+
+    /// Closes the leaf with this ending: adds it to the innermost level, and its lines to the owners. Its
+    /// memory is kept for the next one.
+    #[inline(always)]
+    pub(crate) fn close(
+        &mut self,
+        alloc: Global,
+        ending: Ending,
+        stack: &mut Stack,
+        owners: &mut Owners,
+    ) -> Result<(), RawFault>
+        ensures level { OnOk result (stack.new.level
+            ≡ close_leaves stack.old.level (leaves_with ending self.old)) }
+        ensures frames { stack.new.frames ≡ stack.old.frames }
+        ensures bare { stack.new.bare ≡ stack.old.bare }
+        ensures owners { OnOk result (owners.new
+            ≡ own_leaves owners.old (leaves_with ending self.old)) }
+        ensures leaf { OnOk result (leaf_of self.new ≡ no_leaf) }
+    {
+        self.put(alloc, ending, stack, owners)?;
+        self.text.clear();
+        self.kind = LeafKind::Nothing;
+        Ok(())
     }
 }

@@ -13,10 +13,9 @@ ghost use Rattle.cm_block.specs.declared.fault.BlockFault as faults;
 ghost use Rattle.cm_block.specs.declared.fault.BlockFault.TheVariants as block_faults;
 ghost use Rattle.cm_block.specs.OpenLeaf.{no_leaf};
 ghost use Rattle.cm_block.specs.Machine.{in_leaf};
-ghost use Rattle.cm_block.specs.Stack.{close_leaves, close_open, own_leaves, own_open, push_line};
+ghost use Rattle.cm_block.specs.Stack.{close_open, own_open, push_line};
 ghost use Rattle.cm_block.specs.steps.FrameSteps.{quoted_by};
 ghost use Rattle.cm_block.specs.LeafViews.{leaf_of};
-ghost use Rattle.cm_block.specs.steps.LeafSteps.{leaves_with};
 ghost use Rattle.cm_block.specs.steps.StartViews.{seen};
 ghost use Rattle.cm_block.specs.steps.FirstLines.{begins_container};
 ghost use Rattle.cm_block.specs.steps.FrameStarts.{begun_by, with_blank, LeafBegins, DeepIn};
@@ -92,26 +91,6 @@ impl BlockParser {
         }
     }
 
-    /// Adds the open leaf, which ends like this.
-    #[inline(always)]
-    fn put_leaf(&mut self, ending: Ending) -> Result<(), RawFault>
-        ensures level { OnOk result (self.new.stack.level ≡ close_leaves self.old.stack.level
-            (leaves_with ending self.old.leaf)) }
-        ensures owners { OnOk result (self.new.owners ≡ own_leaves self.old.owners
-            (leaves_with ending self.old.leaf)) }
-        ensures leaf { OnOk result (leaf_of self.new.leaf ≡ no_leaf) }
-        ensures frames { self.new.stack.frames ≡ self.old.stack.frames }
-        ensures bare { self.new.stack.bare ≡ self.old.stack.bare }
-        ensures tests { self.new.tests ≡ self.old.tests }
-        ensures limits { self.new.limits ≡ self.old.limits }
-        ensures fault { self.new.fault ≡ self.old.fault }
-    {
-        self.leaf
-            .put(self.alloc, ending, &mut self.stack, &mut self.owners)?;
-        self.leaf.clear();
-        Ok(())
-    }
-
     /// Closes the open leaf.
     #[inline(always)]
     fn close_leaf(&mut self) -> Result<(), RawFault>
@@ -131,7 +110,7 @@ impl BlockParser {
             return Ok(());
         }
         let blank_lines = self.leaf.blank_lines();
-        self.put_leaf(Ending::Plain)?;
+        self.leaf.close(self.alloc, Ending::Plain, &mut self.stack, &mut self.owners)?;
         if blank_lines > 0 {
             self.stack.push_blank();
             self.owners
@@ -181,7 +160,12 @@ impl BlockParser {
         let rules = self.limits.rules();
         match line.begin_leaf(self.alloc, rules, &mut self.leaf, start)? {
             Some(FirstLine::Opens) => Ok(()),
-            Some(FirstLine::Ends) => self.put_leaf(Ending::Plain),
+            Some(FirstLine::Ends) => self.leaf.close(
+                self.alloc,
+                Ending::Plain,
+                &mut self.stack,
+                &mut self.owners,
+            ),
             None => Ok(()),
         }
     }
@@ -240,7 +224,10 @@ impl BlockParser {
         }
         match self.leaf.take_line(self.limits.rules(), line)? {
             LeafLine::Stays => {}
-            LeafLine::Last(ending) => self.put_leaf(ending)?,
+            LeafLine::Last(ending) => {
+                self.leaf
+                    .close(self.alloc, ending, &mut self.stack, &mut self.owners)?;
+            }
             LeafLine::Leaves => return Ok(false),
         }
         Ok(true)

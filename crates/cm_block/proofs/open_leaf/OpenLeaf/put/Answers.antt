@@ -5,7 +5,7 @@ use Rattle.cm_scan.specs.blocks.Blocks.{line_feeds}
 use Rattle.cm_block.specs.Level.{block_closes}
 use Rattle.cm_block.specs.Stack.{close_leaves, own_leaves}
 use Rattle.cm_block.specs.LeafViews.{ended}
-use Rattle.cm_block.specs.steps.LeafSteps.{fence_lines, own_plain_leaf}
+use Rattle.cm_block.specs.steps.LeafSteps.{fence_lines}
 use Rattle.cm_block.proofs.lemmas.LeafLemmas.{leaves_by_kind}
 use Rattle.cm_block.proofs.lemmas.PutLemmas.{none_closes, none_owns, one_closes, one_owns}
 use Rattle.cm_block.proofs.open_leaf.OpenLeaf.put.Goals as goal
@@ -48,27 +48,25 @@ returns-in-Code-clause-owners c =
     ∙ one_owns owned (code [] (ended text)) (suc (line_feeds text)) refl
     ∙ ap (own_leaves owned) (leaves_by_kind c.args.ending c.args.self.now _ c.in-Code.is)) c.put_indented.ensures.owners
 
-pub returns-in_ok-lines-in-Fence-clause-level : goal.returns-in_ok-lines-in-Fence-clause-level
-returns-in_ok-lines-in-Fence-clause-level c =
+pub returns-in-Fence-clause-level : goal.returns-in-Fence-clause-level
+returns-in-Fence-clause-level c =
     let level = c.args.stack.now.level in
     let text = c.args.self.now.text in
     let info = string_bytes c.args.self.now.info in
-    on_ok_weaker c.put_code.result (λ put.
+    on_ok_weaker c.put_fenced.result (λ put.
     put
-    ∙ ap (λ i. block_closes level (leaf_block (code i c.as_str.result.now))) c.deref.ensures
-    ∙ ap (λ t. block_closes level (leaf_block (code info t))) c.as_str.ensures
+    ∙ ap (λ i. block_closes level (leaf_block (code i text))) c.deref.ensures
     ∙ one_closes level (code info text) (fence_lines c.args.ending text)
-    ∙ ap (close_leaves level) (leaves_by_kind c.args.ending c.args.self.now _ c.in-Fence.is)) c.put_code.ensures.level
+    ∙ ap (close_leaves level) (leaves_by_kind c.args.ending c.args.self.now _ c.in-Fence.is)) c.put_fenced.ensures.level
 
-pub returns-in_ok-lines-in-Fence-clause-owners : goal.returns-in_ok-lines-in-Fence-clause-owners
-returns-in_ok-lines-in-Fence-clause-owners c =
+pub returns-in-Fence-clause-owners : goal.returns-in-Fence-clause-owners
+returns-in-Fence-clause-owners c =
     let owned = c.args.owners.now in
     let text = c.args.self.now.text in
-    on_ok_weaker c.put_code.result (λ put.
+    on_ok_weaker c.put_fenced.result (λ put.
     put
-    ∙ ap (own_plain_leaf owned) c.in_ok-lines-in-Fence.ensures
     ∙ one_owns owned (code (string_bytes c.args.self.now.info) text) (fence_lines c.args.ending text) refl
-    ∙ ap (own_leaves owned) (leaves_by_kind c.args.ending c.args.self.now _ c.in-Fence.is)) c.put_code.ensures.owners
+    ∙ ap (own_leaves owned) (leaves_by_kind c.args.ending c.args.self.now _ c.in-Fence.is)) c.put_fenced.ensures.owners
 
 pub returns-in-Html-clause-level : goal.returns-in-Html-clause-level
 returns-in-Html-clause-level c =

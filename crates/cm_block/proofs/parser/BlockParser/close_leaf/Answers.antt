@@ -13,29 +13,29 @@ returns-in_ok-blank_lines-clause-level c =
     c.push_blank.ensures.level
     ∙ level_with_blanks (leaf_of s.leaf) (leaves_with Plain s.leaf) c.blank_lines-blank_lines.result
     (closes s.leaf) c.blank_lines-blank_lines.ensures
-    s.stack.level c.put_leaf.new.self.stack.level c.if-blank_lines-gt0.true c.in_ok-put_leaf.ensures.level
+    s.stack.level c.close.new.stack.level c.if-blank_lines-gt0.true c.in_ok-close.ensures.level
 
 pub returns-in_ok-blank_lines-clause-owners : goal.returns-in_ok-blank_lines-clause-owners
 returns-in_ok-blank_lines-clause-owners c =
     let s = c.args.self.now in
     owners_with_blanks (leaf_of s.leaf) (leaves_with Plain s.leaf) c.blank_lines-blank_lines.result
     (closes s.leaf) c.blank_lines-blank_lines.ensures
-    (quoted_by false s.stack.frames) c.is_quoted.result s.owners c.put_leaf.new.self.owners c.blank_lines.new.self c.in_ok-blank_lines.ensures
-    (c.is_quoted.ensures ∙ ap (quoted_by false) (c.push_blank.ensures.frames ∙ c.in_ok-put_leaf.ensures.frames)) c.in_ok-put_leaf.ensures.owners
+    (quoted_by false s.stack.frames) c.is_quoted.result s.owners c.close.new.owners c.blank_lines.new.self c.in_ok-blank_lines.ensures
+    (c.is_quoted.ensures ∙ ap (quoted_by false) (c.push_blank.ensures.frames ∙ c.in_ok-close.ensures.frames)) c.in_ok-close.ensures.owners
 
 pub returns-else-blank_lines-gt0-clause-level : goal.returns-else-blank_lines-gt0-clause-level
 returns-else-blank_lines-gt0-clause-level c =
     let s = c.args.self.now in
     level_without (leaf_of s.leaf) (leaves_with Plain s.leaf) c.blank_lines-blank_lines.result
     (closes s.leaf) c.blank_lines-blank_lines.ensures
-    s.stack.level c.put_leaf.new.self.stack.level c.if-blank_lines-gt0.false c.in_ok-put_leaf.ensures.level
+    s.stack.level c.close.new.stack.level c.if-blank_lines-gt0.false c.in_ok-close.ensures.level
 
 pub returns-else-blank_lines-gt0-clause-owners : goal.returns-else-blank_lines-gt0-clause-owners
 returns-else-blank_lines-gt0-clause-owners c =
     let s = c.args.self.now in
     owners_without (leaf_of s.leaf) (leaves_with Plain s.leaf) c.blank_lines-blank_lines.result
     (closes s.leaf) c.blank_lines-blank_lines.ensures
-    (quoted_by false s.stack.frames) s.owners c.put_leaf.new.self.owners c.if-blank_lines-gt0.false c.in_ok-put_leaf.ensures.owners
+    (quoted_by false s.stack.frames) s.owners c.close.new.owners c.if-blank_lines-gt0.false c.in_ok-close.ensures.owners
 
 pub returns-in-Nothing-clause-level : goal.returns-in-Nothing-clause-level
 returns-in-Nothing-clause-level c =

@@ -42,22 +42,23 @@ returns-in-Some-Ends-clause-pushed c =
     let x = c.in-Some-Ends in
     let now = c.begin_leaf.new.leaf in
     let start = seen c.args.start.now.found in
-    let after = c.put_leaf.new.self in
+    let stack = c.close.new.stack in
+    let owners = c.close.new.owners in
     let leaves = leaves_with Plain now in
     let opened = c.in_ok-open_block.ensures in
     let whole = c.in_ok-put_whole.ensures in
-    let put = c.put_leaf.ensures in
+    let closed = c.close.ensures in
     let begins = subst (λ o. IfSome o (λ f. begins_leaf (first_of f now) ≡ begin_of_start c.rules-rules.result start (seen_view c.put_whole.new.self.rest))) x.is c.in_ok-begin_leaf.ensures.leaf in
-    on_ok_weaker c.put_leaf.result (λ h. (
+    on_ok_weaker c.close.result (λ h. (
       is_last leaves,
       (
         ap (λ f. begins_leaf (first_of f now)) (sym x.field-0-is) ∙ begins ∙ ap₂ (λ by (v : View). begin_of_start by start (seen_view v)) c.rules-rules.ensures whole.same,
-        stack_ends after.stack.bare s.stack.frames after.stack.frames (block_opens s.stack.level) after.stack.level (leaf_of after.leaf) s.owners after.owners leaves
-            (put.bare ∙ whole.bare ∙ opened.bare ∙ c.requires.plain) (put.frames ∙ whole.frames ∙ opened.frames) h.0
+        stack_ends stack.bare s.stack.frames stack.frames (block_opens s.stack.level) stack.level (leaf_of c.close.new.self) s.owners owners leaves
+            (closed.bare ∙ whole.bare ∙ opened.bare ∙ c.requires.plain) (closed.frames ∙ whole.frames ∙ opened.frames) h.0
             (h.1.0 ∙ ap (λ v. close_leaves v leaves) (ap (λ (r : Row). r.level) (whole.kept c.if-branch.false) ∙ opened.level))
             (h.1.1 ∙ ap (λ o. own_leaves o leaves) (whole.unowned c.if-branch.false)),
       ),
-    )) (both_ok _ _ c.put_leaf.result put.leaf (both_ok _ _ c.put_leaf.result put.level put.owners))
+    )) (both_ok _ _ c.close.result closed.leaf (both_ok _ _ c.close.result closed.level closed.owners))
 
 pub returns-then-branch-clause-pushed : goal.returns-then-branch-clause-pushed
 returns-then-branch-clause-pushed c =

@@ -20,19 +20,19 @@ returns-in-Stays-clause-taken c =
       ),
     )
 
-pub returns-in_ok-put_leaf-in-Last-clause-taken : goal.returns-in_ok-put_leaf-in-Last-clause-taken
-returns-in_ok-put_leaf-in-Last-clause-taken c =
+pub returns-in_ok-close-in-Last-clause-taken : goal.returns-in_ok-close-in-Last-clause-taken
+returns-in_ok-close-in-Last-clause-taken c =
     let s = c.args.self.now in
     let y = c.take_line.new.self in
     let leaves = leaves_with c.in-Last.ending y in
-    let put = c.in_ok-put_leaf-in-Last.ensures in (
+    let closed = c.in_ok-close-in-Last.ensures in (
       omega (arith, c.depth.ensures, c.if-depth.false),
       (
         is_last leaves,
         (
           ap (λ r. line_of_leaf r (leaf_of s.leaf) (seen_view c.args.line.now.rest)) (sym c.rules.ensures) ∙ sym c.in_ok-take_line.ensures.line ∙ ap (λ t. taken_of t y) c.in-Last.is,
-          stack_ends c.put_leaf.new.self.stack.bare s.stack.frames c.put_leaf.new.self.stack.frames s.stack.level c.put_leaf.new.self.stack.level (leaf_of c.put_leaf.new.self.leaf) s.owners c.put_leaf.new.self.owners leaves
-              (put.bare ∙ c.requires.plain) put.frames put.leaf put.level put.owners,
+          stack_ends c.close.new.stack.bare s.stack.frames c.close.new.stack.frames s.stack.level c.close.new.stack.level (leaf_of c.close.new.self) s.owners c.close.new.owners leaves
+              (closed.bare ∙ c.requires.plain) closed.frames closed.leaf closed.level closed.owners,
         ),
       ),
     )

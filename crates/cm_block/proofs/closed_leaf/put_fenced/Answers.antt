@@ -1,0 +1,15 @@
+use Rattle.std.proofs.Common.{ap, ◌∙◌}
+use Rattle.std.proofs.lemmas.Result.{on_ok_weaker}
+use Rattle.cm_scan.specs.blocks.Parts.{leaf_block, code}
+use Rattle.cm_block.specs.Level.{block_closes}
+use Rattle.cm_block.specs.steps.LeafSteps.{own_plain_leaf}
+use Rattle.cm_block.proofs.closed_leaf.put_fenced.Goals as goal
+
+pub returns-clause-level : goal.returns-clause-level
+returns-clause-level c =
+    on_ok_weaker c.put_code.result (λ put.
+    put ∙ ap (λ t. block_closes c.args.stack.now.level (leaf_block (code c.args.info.now t))) c.as_str.ensures) c.put_code.ensures.level
+
+pub returns-clause-owners : goal.returns-clause-owners
+returns-clause-owners c =
+    on_ok_weaker c.put_code.result (λ put. put ∙ ap (own_plain_leaf c.args.owners.now) c.in_ok-lines.ensures) c.put_code.ensures.owners
