@@ -1,10 +1,28 @@
 //! Whether a line ends the open leaf.
 ghost use Rattle.std.specs.Prelude.{◌≡◌, ℕ, List};
-ghost use Rattle.cm_block.specs.Prelude.{seen_view, closes_fence, is_html_end, kind_of};
+ghost use Rattle.cm_block.specs.Prelude.{seen_view, underline_of, closes_fence, is_html_end, kind_of};
 
-use crate::counted_line::starts::content;
-use cm_scan::{FenceKind, HtmlKind, fence_end, html_end};
+use crate::counted_line::starts::{begins_with_letter, content};
+use cm_scan::{FenceKind, HtmlKind, fence_end, html_end, underline};
 use cm_text::View;
+
+/// The heading level that the line gives, as an underline, to the text above it. A lazy continuation line is
+/// none (4.3 Setext headings).
+pub(crate) fn underline_of(line: &View<'_>) -> Option<u8>
+    ensures { result ≡ underline_of (seen_view line.now) }
+{
+    if line.lazy {
+        return None;
+    }
+    if begins_with_letter(line) {
+        return None;
+    }
+    if line.indent() > 3 {
+        return None;
+    }
+    let (level, _) = underline(content(line), 0)?;
+    Some(level)
+}
 
 /// Whether the line is the closing fence: it has up to 3 columns of indentation (4.5 Fenced code blocks).
 pub(crate) fn closes_fence(kind: FenceKind, line: &View<'_>) -> bool

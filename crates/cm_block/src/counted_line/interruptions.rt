@@ -1,12 +1,12 @@
-//! What can interrupt a paragraph, and what underlines it.
+//! What can interrupt a paragraph.
 ghost use Rattle.std.specs.Prelude.{◌≡◌, suc, drop};
 ghost use Rattle.cm_block.specs.Prelude.{LineView, seen_view, is_blank_text, starts_at_one};
-ghost use Rattle.cm_block.specs.Prelude.{can_interrupt, interrupts_paragraph, underline_of};
+ghost use Rattle.cm_block.specs.Prelude.{can_interrupt, interrupts_paragraph};
 ghost use Rattle.cm_block.specs.steps.StartViews.{seen};
 ghost use Rattle.cm_block.specs.declared.counted_line.starts.Start.TheVariants.{Html, Item};
 
-use crate::counted_line::starts::{Start, begins_with_letter, content, start_of};
-use cm_scan::{HtmlKind, ItemMarker, is_blank_text, underline};
+use crate::counted_line::starts::{Start, content, start_of};
+use cm_scan::{HtmlKind, ItemMarker, is_blank_text};
 use cm_text::{Rules, View};
 use cm_tree::ListKind;
 
@@ -54,22 +54,4 @@ pub(crate) fn interrupts_paragraph(rules: Rules, line: &View<'_>) -> bool
         Start::Item(marker) => item_interrupts(marker, line),
         Start::IndentedCode | Start::TextLine => false,
     }
-}
-
-/// The heading level that the line gives, as an underline, to the text above it. A lazy continuation line is
-/// none (4.3 Setext headings).
-pub(crate) fn underline_of(line: &View<'_>) -> Option<u8>
-    ensures { result ≡ underline_of (seen_view line.now) }
-{
-    if line.lazy {
-        return None;
-    }
-    if begins_with_letter(line) {
-        return None;
-    }
-    if line.indent() > 3 {
-        return None;
-    }
-    let (level, _) = underline(content(line), 0)?;
-    Some(level)
 }

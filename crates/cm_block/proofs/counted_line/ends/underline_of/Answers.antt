@@ -2,7 +2,7 @@ use Rattle.std.proofs.Common.{◌∙◌, sym, arith}
 use Rattle.cm_text.specs.Views.{seen_view}
 use Rattle.cm_block.proofs.lemmas.NextLineLemmas.{underline_lazy, underline_far, underline_none, underline_some}
 use Rattle.cm_block.proofs.lemmas.StartLemmas.{letter_underlines}
-use Rattle.cm_block.proofs.counted_line.interruptions.underline_of.Goals as goal
+use Rattle.cm_block.proofs.counted_line.ends.underline_of.Goals as goal
 
 pub returns-then-line : goal.returns-then-line
 returns-then-line c = underline_lazy (seen_view c.args.line.now) c.if-line.true
