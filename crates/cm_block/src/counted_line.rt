@@ -5,14 +5,14 @@
 //! The count stops at the greatest number of its type. It is proved that the lines that fit in memory don't
 //! reach it.
 ghost use Rattle.std.specs.Prelude.{◌≡◌, ◌+◌, ◌++◌, ◌∷◌, ◌&&◌, ℕ};
-ghost use Rattle.std.specs.Prelude.{List, [], suc, true, false, string_bytes, IfOk, IfSome, IfNone, OnOk};
+ghost use Rattle.std.specs.Prelude.{List, [], suc, true, false, IfOk, IfSome, OnOk};
 ghost use Rattle.cm_block.specs.Prelude.{strip_columns, seen_view, given, is_blank, with_ending};
 ghost use Rattle.cm_block.specs.Prelude.{is_html_end, kind_of, continuation_if_lazy, continuation_in_quote};
 ghost use Rattle.cm_block.specs.Prelude.{continuation_in_item, interrupts_paragraph, underline_of};
 ghost use Rattle.cm_block.specs.Prelude.{goes_inward};
 ghost use Rattle.cm_block.specs.Prelude.{line_feeds, add_text, closes_fence, plain_lines_of};
 ghost use Rattle.cm_text.specs.Rules as all;
-ghost use Rattle.cm_block.specs.OpenLeaf.{no_leaf, stays_open, line_of_leaf, begins_leaf, begin_of_start};
+ghost use Rattle.cm_block.specs.OpenLeaf.{no_leaf, stays_open, line_of_leaf, begin_of_start};
 ghost use Rattle.cm_block.specs.LeafViews.{code_of, leaf_of};
 ghost use Rattle.cm_block.specs.steps.LineTests.{Tested};
 ghost use Rattle.cm_block.specs.steps.TextRuns.{add_lines};
@@ -30,7 +30,7 @@ mod items;
 mod starts;
 
 use crate::leaf_text::LeafText;
-use crate::open_leaf::OpenLeaf;
+use crate::open_leaf::{LeafLine, OpenLeaf};
 use crate::owners::Owners;
 use crate::stack::Stack;
 use cm_scan::{FenceKind, HtmlKind};
@@ -39,7 +39,6 @@ use cm_tree::{ListKind, RawFault};
 use continuations::{ends_bare_item, if_lazy, is_blank, item_content, quote_content, with_columns};
 use copies::{add_text, push_next_line, push_whole_line, take_code_line};
 use ends::{closes_fence, ends_html, underline_of};
-pub(crate) use first_line::FirstLine;
 use first_line::{begin_leaf, put_whole};
 use interruptions::interrupts_paragraph;
 pub(crate) use items::LineInItems;
@@ -437,8 +436,8 @@ impl<'a> CountedLine<'a> {
         Ok(true)
     }
 
-    /// Opens the leaf block that was found to start with the line. A leaf of one line isn't opened, and
-    /// neither a quote's nor an item's marker opens one. No leaf is open so far.
+    /// Opens the leaf block that was found to start with the line. Returns what the line is to it. A leaf of
+    /// one line isn't opened, and neither a quote's nor an item's marker opens one. No leaf is open so far.
     #[inline(always)]
     pub(crate) fn begin_leaf(
         &mut self,
@@ -446,11 +445,11 @@ impl<'a> CountedLine<'a> {
         rules: Rules,
         leaf: &mut OpenLeaf,
         start: &LeafStart<'_>,
-    ) -> Result<Option<FirstLine>, NoMemory>
+    ) -> Result<LeafLine, NoMemory>
         requires { leaf_of leaf.old ≡ no_leaf }
-        ensures leaf { IfOk result (λ first. IfSome first (λ f. begins_leaf (first_of f leaf.new)
-            ≡ begin_of_start rules (seen start.now.found) (seen_view self.old.rest))) }
-        ensures other { IfOk result (λ first. IfNone first (opens_leaf (seen start.now.found) ≡ false)) }
+        ensures leaf { IfOk result (λ first. first_of first leaf.new
+            ≡ given (opens_leaf (seen start.now.found))
+            (begin_of_start rules (seen start.now.found) (seen_view self.old.rest))) }
         ensures read { ReadOnce self.old self.new }
     {
         begin_leaf(alloc, rules, leaf, start, &self.read())

@@ -13,7 +13,7 @@ use crate::leaf_kind::LeafKind;
 use crate::leaf_text::LeafText;
 use crate::owners::Owners;
 use crate::stack::Stack;
-use crate::text_runs::{NextLine, next_line};
+use crate::text_runs::next_line;
 use cm_scan::HtmlKind;
 use cm_text::Rules;
 use cm_tree::RawFault;
@@ -71,7 +71,7 @@ fn leaves_html(kind: HtmlKind, line: &mut CountedLine<'_>) -> bool
 }
 
 impl OpenLeaf {
-    ghost use Rattle.std.specs.Prelude.{ℕ, ◌+◌, ◌≤◌, List, Some, true, IfOk, OnOk};
+    ghost use Rattle.std.specs.Prelude.{ℕ, ◌+◌, ◌≤◌, List, true, IfOk, OnOk};
     ghost use Rattle.cm_block.specs.Prelude.{plain_lines_of};
     ghost use Rattle.cm_block.specs.OpenLeaf.{no_leaf, open_text, blank_lines_behind};
     ghost use Rattle.cm_block.specs.OpenLeaf.{is_open_text, line_of_leaf};
@@ -143,14 +143,13 @@ impl OpenLeaf {
     {
         match self.kind {
             LeafKind::Nothing => Ok(LeafLine::Leaves),
-            LeafKind::Run => match next_line(rules, self.text.as_str(), line) {
-                NextLine::GoesOn => {
+            LeafKind::Run => {
+                let next = next_line(rules, self.text.as_str(), line);
+                if let LeafLine::Stays = next {
                     line.add_text(&mut self.text)?;
-                    Ok(LeafLine::Stays)
                 }
-                NextLine::Ends => Ok(LeafLine::Leaves),
-                NextLine::Underlines(level) => Ok(LeafLine::Last(Ending::Underline(level))),
-            },
+                Ok(next)
+            }
             LeafKind::Code => {
                 if line.add_code(&mut self.text, &mut self.blank_lines)? {
                     return Ok(LeafLine::Stays);

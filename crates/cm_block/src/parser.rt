@@ -26,7 +26,7 @@ ghost use Rattle.cm_block.specs.steps.LineTests.{Tested};
 ghost use Rattle.cm_block.specs.steps.ParserSteps.{Deep, ends_at_blank, TakenToLeaf};
 
 use crate::containers::Innermost;
-use crate::counted_line::{CountedLine, CountedLines, FirstLine, LeafStart};
+use crate::counted_line::{CountedLine, CountedLines, LeafStart};
 use crate::fault::BlockFault;
 use crate::leaf_kind::LeafKind;
 use crate::open_leaf::{Ending, LeafLine, OpenLeaf};
@@ -159,14 +159,11 @@ impl BlockParser {
         }
         let rules = self.limits.rules();
         match line.begin_leaf(self.alloc, rules, &mut self.leaf, start)? {
-            Some(FirstLine::Opens) => Ok(()),
-            Some(FirstLine::Ends) => self.leaf.close(
-                self.alloc,
-                Ending::Plain,
-                &mut self.stack,
-                &mut self.owners,
-            ),
-            None => Ok(()),
+            LeafLine::Stays | LeafLine::Leaves => Ok(()),
+            LeafLine::Last(ending) => {
+                self.leaf
+                    .close(self.alloc, ending, &mut self.stack, &mut self.owners)
+            }
         }
     }
 

@@ -1,12 +1,13 @@
 //! Runs of text: lines that may become definitions, a paragraph or a heading. The definitions are at the
 //! start of a run's source.
-ghost use Rattle.std.specs.Prelude.{◌≡◌, ◌+◌, ◌<◌, ◌≤◌, ◌^◌, not, true, IfSome, IfNone};
+ghost use Rattle.std.specs.Prelude.{◌≡◌, ◌+◌, ◌<◌, ◌≤◌, ◌^◌, not, true};
 ghost use Rattle.cm_block.specs.Prelude.{seen_view, is_empty, definitions_of, line_feeds, rest_of, next_line};
-ghost use Rattle.cm_block.specs.declared.text_runs.NextLine.TheVariants.{Ends};
+ghost use Rattle.cm_block.specs.declared.open_leaf.LeafLine.TheVariants.{Leaves};
 ghost use Rattle.cm_block.specs.steps.LineTests.{Tested, ReadOnce};
-ghost use Rattle.cm_block.specs.steps.LeafSteps.{next_of, heading_level};
+ghost use Rattle.cm_block.specs.steps.LeafSteps.{leaf_line, heading_level};
 
 use crate::counted_line::{CountedLine, Look};
+use crate::open_leaf::{Ending, LeafLine};
 use cm_scan::{definition, trim_end};
 use cm_text::Rules;
 use memchr::memchr_iter;
@@ -42,14 +43,6 @@ fn has_rest(source: &str) -> bool
     !behind_definitions(trim_end(source)).is_empty()
 }
 
-/// What the next line is to a run of text.
-#[derive(Clone, Copy, Debug)]
-pub(crate) enum NextLine {
-    GoesOn,
-    Ends,
-    Underlines(u8),
-}
-
 /// The level of the heading that the line makes of a run with this source. There has to be something above
 /// the line that is no definition (4.3 Setext headings).
 fn heading_level(source: &str, line: &mut CountedLine<'_>) -> Option<u8>
@@ -65,22 +58,22 @@ fn heading_level(source: &str, line: &mut CountedLine<'_>) -> Option<u8>
 
 /// What the next line is to a run with this source. An underline takes precedence over a thematic break and
 /// an item.
-pub(crate) fn next_line(rules: Rules, source: &str, line: &mut CountedLine<'_>) -> NextLine
-    ensures next { next_of result ≡ next_line rules source.now (seen_view line.old.rest) }
+pub(crate) fn next_line(rules: Rules, source: &str, line: &mut CountedLine<'_>) -> LeafLine
+    ensures next { result ≡ leaf_line (next_line rules source.now (seen_view line.old.rest)) }
     ensures same { line.new.rest ≡ line.old.rest }
     ensures tests { Tested 1 3 line.old.tests line.new.tests }
-    ensures lazy { result ≡ Ends → line.old.rest.lazy ≡ true → line.new.tests ≤ line.old.tests + 1 }
+    ensures lazy { result ≡ Leaves → line.old.rest.lazy ≡ true → line.new.tests ≤ line.old.tests + 1 }
 {
     match line.look() {
-        Look::Blank => return NextLine::Ends,
-        Look::Text => return NextLine::GoesOn,
+        Look::Blank => return LeafLine::Leaves,
+        Look::Text => return LeafLine::Stays,
         Look::Other => {}
     }
     if let Some(level) = heading_level(source, line) {
-        return NextLine::Underlines(level);
+        return LeafLine::Last(Ending::Underline(level));
     }
     if line.interrupts_paragraph(rules) {
-        return NextLine::Ends;
+        return LeafLine::Leaves;
     }
-    NextLine::GoesOn
+    LeafLine::Stays
 }

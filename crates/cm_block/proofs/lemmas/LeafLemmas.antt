@@ -1,6 +1,6 @@
 -- The open leaf as the code has it: what one more line does to it.
 use Rattle.std.proofs.Common.{◌≡◌, ℕ, zero, suc, ◌+◌, ◌<◌, ◌≤◌, Bool, true, false, List, [], ◌∷◌, ◌++◌, replicate, Option, Some, None, string_bytes, refl, sym, ap, ap₂, ◌∙◌, arith}
-use Rattle.std.specs.Prelude.{nat_le, ◌&&◌}
+use Rattle.std.specs.Prelude.{nat_le, not, ◌&&◌, ◌||◌}
 use Rattle.std.specs.Option.{is_some, option_map, unwrap_or}
 use Rattle.std.proofs.lemmas.List.{append_assoc}
 use Rattle.std.proofs.lemmas.Bool.Decides.{nat_tests}
@@ -14,19 +14,21 @@ use Rattle.cm_scan.specs.blocks.HtmlBlocks.{HtmlKind, RawText, Comment, Instruct
 use Rattle.cm_scan.specs.blocks.LineForms.{Fence}
 use Rattle.cm_scan.specs.blocks.Starts.{Start, IndentedCode, QuoteMarker, AtxHeading, OpeningFence, HtmlStart, BreakLine, ItemStart, TextLine}
 use Rattle.cm_scan.specs.blocks.Parts.{LeafPart, html, leaf_block, info_of}
-use Rattle.cm_scan.specs.blocks.Blocks.{line_feeds, NextLine, next_line, closes_fence, code_line}
+use Rattle.cm_scan.specs.blocks.Blocks.{line_feeds, add_text, NextLine, GoesOn, Ends, Underlines, next_line, closes_fence, code_line}
 use Rattle.cm_block.proofs.lemmas.FeedLemmas.{feeds_append, feeds_ended}
 use Rattle.cm_block.specs.declared.open_leaf.OpenLeaf.{OpenLeaf}
+use Rattle.cm_block.specs.declared.open_leaf.LeafLine as code
+use Rattle.cm_block.specs.declared.open_leaf.LeafLine.TheVariants.{Stays}
 use Rattle.cm_block.specs.declared.open_leaf.Ending.{Ending}
-use Rattle.cm_block.specs.declared.open_leaf.Ending.TheVariants.{Plain}
+use Rattle.cm_block.specs.declared.open_leaf.Ending.TheVariants.{Plain, Underline}
 use Rattle.cm_block.specs.declared.leaf_kind.LeafKind.{LeafKind}
 use Rattle.cm_block.specs.declared.leaf_kind.LeafKind.TheVariants as leaf
-use Rattle.cm_block.specs.OpenLeaf.{no_leaf, open_text, open_code, open_fence, open_html, closed_leaves, LeafLine, stays_open, is_last, begins_leaf, begin_of_start, line_of_text, line_of_code, line_of_fence, line_of_html, line_of_leaf}
+use Rattle.cm_block.specs.OpenLeaf.{no_leaf, open_text, open_code, open_fence, open_html, closed_leaves, LeafLine, stays_open, is_last, LineOpens, begins_leaf, begin_of_start, line_of_text, line_of_code, line_of_fence, line_of_html, line_of_leaf}
 use Rattle.cm_block.specs.Level.{Level, block_closes}
 use Rattle.cm_block.specs.Stack.{Owned, close_leaves, own_leaves}
 use Rattle.cm_block.specs.LeafViews.{ended, code_of, leaf_with, leaf_of}
-use Rattle.cm_block.specs.steps.LeafSteps.{leaves_of_kind, leaves_with, own_plain_leaf}
-use Rattle.cm_block.specs.steps.FirstLines.{whole_leaf, is_whole, of_one_line, whole_leaves}
+use Rattle.cm_block.specs.steps.LeafSteps.{leaf_line, leaves_of_kind, leaves_with, taken_of, own_plain_leaf}
+use Rattle.cm_block.specs.steps.FirstLines.{first_of, begins_container, whole_leaf, is_whole, of_one_line, whole_leaves, opens_leaf}
 
 -- spaces before a line don't matter to the end of an HTML block
 
@@ -126,9 +128,9 @@ module _ (rules : Rules) where
   unfolding line_of_leaf
   no_line line = refl
 
-  pub text_line : (source : List ℕ) (line : LineView) (next : NextLine) → next ≡ next_line rules source line → line_of_text source line next ≡ line_of_leaf rules (open_text source) line
+  text-line : (source : List ℕ) (line : LineView) (next : NextLine) → next ≡ next_line rules source line → line_of_text source line next ≡ line_of_leaf rules (open_text source) line
   unfolding line_of_leaf
-  text_line source line next e = ap (line_of_text source line) e
+  text-line source line next e = ap (line_of_text source line) e
 
   pub fence_line : (fence : Fence) (columns : ℕ) (text : List ℕ) (lines : ℕ) (line : LineView) (closes : Bool) → closes ≡ closes_fence fence line
       → Some (line_of_fence fence columns text lines line closes) ≡ line_of_leaf rules (open_fence fence columns text lines) line
@@ -146,6 +148,35 @@ module _ (rules : Rules) where
   html_line kind text lines line ends e k =
       ap (λ b. Some (line_of_html kind text lines line b)) k
       ∙ sym (ap (λ b. elim b as (λ _. Option LeafLine) [ true ↦ None | false ↦ Some (line_of_html kind text lines line (is_html_end kind line.text)) ]) e)
+
+-- a line after a run, as the code has both
+module _ (rules : Rules) (before : OpenLeaf) where
+  -- one that was added to it
+  pub run_goes_on : (now : OpenLeaf) (line : LineView) (taken : code.LeafLine) → before.kind ≡ leaf.Run → now.kind ≡ leaf.Run → taken ≡ Stays → taken ≡ leaf_line (next_line rules before.text line)
+      → now.text ≡ add_text before.text line → taken_of taken now ≡ line_of_leaf rules (leaf_of before) line
+  run_goes_on now line taken run still stays e text =
+      ap (λ t. taken_of t now) stays
+      ∙ ap₂ (λ k t. Some (stays_open (leaf_with k t now.blank_lines (string_bytes now.info)))) still text
+      ∙ text-line rules before.text line GoesOn (goes-on (next_line rules before.text line) (sym stays ∙ e))
+      ∙ line_by_kind rules before leaf.Run line run
+    where
+      goes-on : (next : NextLine) → Stays ≡ leaf_line next → GoesOn ≡ next
+      goes-on GoesOn e = refl
+      goes-on Ends e = absurd (cc)
+      goes-on (Underlines level) e = absurd (cc)
+
+  -- one that wasn't
+  pub run_ends : (line : LineView) (taken : code.LeafLine) → before.kind ≡ leaf.Run → (taken ≡ Stays → ⊥) → taken ≡ leaf_line (next_line rules before.text line)
+      → taken_of taken before ≡ line_of_leaf rules (leaf_of before) line
+  run_ends line taken run ends e = go (next_line rules before.text line) refl ∙ line_by_kind rules before leaf.Run line run
+    where
+      go : (next : NextLine) → next_line rules before.text line ≡ next → taken_of taken before ≡ line_of_leaf rules (open_text before.text) line
+      go GoesOn is = absurd (ends (e ∙ ap leaf_line is))
+      go Ends is = ap (λ t. taken_of t before) (e ∙ ap leaf_line is) ∙ text-line rules before.text line Ends (sym is)
+      go (Underlines level) is =
+          ap (λ t. taken_of t before) (e ∙ ap leaf_line is)
+          ∙ ap (λ k. Some (is_last (leaves_of_kind (Underline level) k before.text (string_bytes before.info)))) run
+          ∙ text-line rules before.text line (Underlines level) (sym is)
 
 -- lines that line feeds part, and one more
 pub one_more : (text after line : List ℕ) → after ≡ text ++ 10 ∷ line → ended after ≡ ended text ++ (line ++ 10 ∷ [])
@@ -177,6 +208,14 @@ whole_begins rules (OpeningFence fence) line is = absurd (cc (is))
 whole_begins rules (HtmlStart kind) line is = absurd (cc (is))
 whole_begins rules (ItemStart marker) line is = absurd (cc (is))
 whole_begins rules TextLine line is = absurd (cc (is))
+
+-- any other start of a leaf opens one, of which this is the first line
+pub first_opens : (first : code.LeafLine) (now : OpenLeaf) (start : Start) (opens : LineOpens) → is_whole start ≡ false → begins_container start ≡ false
+    → first_of first now ≡ given (opens_leaf start) opens → first_of first now ≡ Some opens
+first_opens first now start opens whole container e = e ∙ ap₂ (λ w c. given (not (w || c)) opens) whole container
+
+pub first_begins : (first : code.LeafLine) (now : OpenLeaf) (l : LeafLine) (opens : LineOpens) → taken_of first now ≡ Some l → first_of first now ≡ Some opens → begins_leaf l ≡ opens
+first_begins first now l opens is e = ap (λ o. unwrap_or o opens) (sym (ap (option_map begins_leaf) is) ∙ e)
 
 pub none_whole : (start : Start) → None ≡ option_map leaf_block (whole_leaf start) → whole_leaf start ≡ None
 none_whole start none = go (whole_leaf start) none

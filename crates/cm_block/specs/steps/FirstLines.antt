@@ -1,5 +1,6 @@
 -- The first line of a leaf block, as the code has it.
 use Rattle.std.specs.Prelude.{◌≡◌, ℕ, Bool, true, false, not, ◌||◌, List, [], ◌∷◌, Option, Some, None, is_some}
+use Rattle.std.specs.Option.{option_map}
 use Rattle.cm_text.specs.Rules.{Rules}
 use Rattle.cm_text.specs.Lines.{LineView}
 use Rattle.cm_scan.specs.blocks.Lines.{is_blank}
@@ -7,19 +8,15 @@ use Rattle.cm_scan.specs.blocks.Parts.{LeafPart, heading, thematic_break}
 use Rattle.cm_scan.specs.blocks.Starts.{Start, QuoteMarker, AtxHeading, BreakLine, ItemStart}
 use Rattle.cm_block.specs.declared.counted_line.Begins.{Begins}
 use Rattle.cm_block.specs.declared.counted_line.Begins.TheVariants.{Nothing, Quote, Item, Leaf}
-use Rattle.cm_block.specs.declared.counted_line.first_line.FirstLine.{FirstLine}
-use Rattle.cm_block.specs.declared.counted_line.first_line.FirstLine.TheVariants.{Opens, Ends}
 use Rattle.cm_block.specs.declared.open_leaf.OpenLeaf.{OpenLeaf}
-use Rattle.cm_block.specs.declared.open_leaf.Ending.TheVariants.{Plain}
-use Rattle.cm_block.specs.OpenLeaf.{LeafLine, stays_open, is_last, begins_quote, begins_item, begin_of_start, begin_of}
-use Rattle.cm_block.specs.LeafViews.{leaf_of}
+use Rattle.cm_block.specs.declared.open_leaf.LeafLine.{LeafLine}
+use Rattle.cm_block.specs.OpenLeaf.{LineOpens, begins_leaf, begins_quote, begins_item, begin_of_start, begin_of}
 use Rattle.cm_block.specs.steps.StartViews.{seen}
-use Rattle.cm_block.specs.steps.LeafSteps.{leaves_with}
+use Rattle.cm_block.specs.steps.LeafSteps.{taken_of}
 
--- what it makes, where this is open then
-abbrev pub first_of : FirstLine → OpenLeaf → LeafLine
-first_of Opens now = stays_open (leaf_of now)
-first_of Ends now = is_last (leaves_with Plain now)
+-- what a line starts, where it is this to the leaf that is open then
+abbrev pub first_of : LeafLine → OpenLeaf → Option LineOpens
+first_of first now = option_map begins_leaf (taken_of first now)
 
 -- the line starts with the marker of a quote or an item
 abbrev pub begins_container : Start → Bool

@@ -8,10 +8,7 @@ use Rattle.cm_block.specs.Stack.{Owned}
 use Rattle.cm_scan.specs.Words.{is_empty}
 use Rattle.cm_scan.specs.blocks.Starts.{underline_of}
 use Rattle.cm_scan.specs.blocks.Parts.{LeafPart, code, html}
-use Rattle.cm_scan.specs.blocks.Blocks as blocks
-use Rattle.cm_scan.specs.blocks.Blocks.{line_feeds, rest_of}
-use Rattle.cm_block.specs.declared.text_runs.NextLine.{NextLine}
-use Rattle.cm_block.specs.declared.text_runs.NextLine.TheVariants.{GoesOn, Ends, Underlines}
+use Rattle.cm_scan.specs.blocks.Blocks.{line_feeds, rest_of, NextLine, GoesOn, Ends, Underlines}
 use Rattle.cm_block.specs.declared.leaf_kind.LeafKind.{LeafKind}
 use Rattle.cm_block.specs.declared.leaf_kind.LeafKind.TheVariants.{Nothing, Run, Code, Fence, Html}
 use Rattle.cm_block.specs.declared.open_leaf.OpenLeaf.{OpenLeaf}
@@ -23,10 +20,11 @@ use Rattle.cm_block.specs.OpenLeaf as spec
 use Rattle.cm_block.specs.OpenLeaf.{run_leaves, stays_open, is_last}
 use Rattle.cm_block.specs.LeafViews.{ended, leaf_of}
 
-abbrev pub next_of : NextLine → blocks.NextLine
-next_of GoesOn = blocks.GoesOn
-next_of Ends = blocks.Ends
-next_of (Underlines level) = blocks.Underlines level
+-- what the next line of a run of text is to that
+abbrev pub leaf_line : NextLine → LeafLine
+leaf_line GoesOn = Stays
+leaf_line Ends = Leaves
+leaf_line (Underlines level) = Last (Underline level)
 
 abbrev pub level_above : (something_left : Bool) → Option ℕ → Option ℕ
 level_above true level = level

@@ -1,10 +1,10 @@
 //! What the first line of a leaf block makes: a leaf that further lines may continue, or one that is whole.
-ghost use Rattle.std.specs.Prelude.{◌≡◌, IfOk, IfSome, IfNone, OnOk, option_map, false};
-ghost use Rattle.cm_block.specs.Prelude.{seen_view, kind_of, leaf_block};
+ghost use Rattle.std.specs.Prelude.{◌≡◌, IfOk, OnOk, Some, option_map, false};
+ghost use Rattle.cm_block.specs.Prelude.{seen_view, given, kind_of, leaf_block};
 ghost use Rattle.cm_text.specs.Rules as all;
 ghost use Rattle.cm_block.specs.declared.counted_line.starts.Start.TheVariants.{Fence};
 ghost use Rattle.cm_scan.specs.blocks.Starts as starts;
-ghost use Rattle.cm_block.specs.OpenLeaf.{no_leaf, begin_of_start, begins_leaf};
+ghost use Rattle.cm_block.specs.OpenLeaf.{no_leaf, stays_open, begins_leaf, begin_of_start};
 ghost use Rattle.cm_block.specs.Stack.{close_leaves, own_leaves};
 ghost use Rattle.cm_block.specs.LeafViews.{leaf_of};
 ghost use Rattle.cm_block.specs.steps.StartViews.{seen};
@@ -19,22 +19,13 @@ use crate::counted_line::starts::{Start, content};
 use crate::infos::info_of;
 use crate::leaf_block::LeafBlock;
 use crate::leaf_kind::LeafKind;
-use crate::open_leaf::OpenLeaf;
+use crate::open_leaf::{Ending, LeafLine, OpenLeaf};
 use crate::owners::Owners;
 use crate::stack::Stack;
 use cm_scan::{HtmlKind, OpeningFence};
 use cm_text::{NoMemory, Rules, View};
 use cm_tree::RawFault;
 use std::alloc::{AllocError, Global};
-
-/// What the first line of a leaf block makes.
-#[derive(Clone, Copy, Debug)]
-pub(crate) enum FirstLine {
-    /// A leaf that further lines may continue. It is open.
-    Opens,
-    /// A leaf that is open, and ends with this line.
-    Ends,
-}
 
 /// The leaf block that a line is by itself: a heading (4.2 ATX headings) or a thematic break (4.1 Thematic
 /// breaks).
@@ -77,15 +68,14 @@ pub(crate) fn put_whole(
 }
 
 /// Opens indented code: the line loses 4 columns (4.4 Indented code blocks).
-fn begin_code(leaf: &mut OpenLeaf, line: &View<'_>) -> Result<FirstLine, AllocError>
+fn begin_code(leaf: &mut OpenLeaf, line: &View<'_>) -> Result<(), AllocError>
     requires { leaf_of leaf.old ≡ no_leaf }
-    ensures { IfOk result (λ first. (by : all.Rules) → begins_leaf (first_of first leaf.new)
+    ensures { OnOk result ((by : all.Rules) → begins_leaf (stays_open (leaf_of leaf.new))
         ≡ begin_of_start by starts.IndentedCode (seen_view line.now)) }
 {
     leaf.kind = LeafKind::Code;
     leaf.blank_lines.clear();
-    push_line(&mut leaf.text, &line.strip(4))?;
-    Ok(FirstLine::Opens)
+    push_line(&mut leaf.text, &line.strip(4))
 }
 
 /// Opens a fenced code block, with its info resolved. Each further line loses as many columns as this one has
@@ -96,9 +86,9 @@ fn begin_fence(
     leaf: &mut OpenLeaf,
     fence: OpeningFence<'_>,
     line: &View<'_>,
-) -> Result<FirstLine, NoMemory>
+) -> Result<(), NoMemory>
     requires { leaf_of leaf.old ≡ no_leaf }
-    ensures { IfOk result (λ first. begins_leaf (first_of first leaf.new)
+    ensures { OnOk result (begins_leaf (stays_open (leaf_of leaf.new))
         ≡ begin_of_start rules (seen (Fence fence.entry)) (seen_view line.now)) }
 {
     leaf.info = info_of(alloc, rules, fence.info)?;
@@ -106,38 +96,37 @@ fn begin_fence(
         kind: fence.kind,
         columns: line.indent(),
     };
-    Ok(FirstLine::Opens)
+    Ok(())
 }
 
-/// Opens HTML, which its first line may end (4.6 HTML blocks).
+/// Opens HTML, which its first line may end (4.6 HTML blocks). Returns what the line is to it.
 #[inline(always)]
-fn begin_html(leaf: &mut OpenLeaf, kind: HtmlKind, line: &View<'_>) -> Result<FirstLine, AllocError>
+fn begin_html(leaf: &mut OpenLeaf, kind: HtmlKind, line: &View<'_>) -> Result<LeafLine, AllocError>
     requires { leaf_of leaf.old ≡ no_leaf }
-    ensures { IfOk result (λ first. (by : all.Rules) → begins_leaf (first_of first leaf.new)
-        ≡ begin_of_start by (starts.HtmlStart (kind_of kind)) (seen_view line.now)) }
+    ensures { IfOk result (λ first. (by : all.Rules) → first_of first leaf.new
+        ≡ Some (begin_of_start by (starts.HtmlStart (kind_of kind)) (seen_view line.now))) }
 {
     leaf.kind = LeafKind::Html { kind };
     push_line(&mut leaf.text, line)?;
     if ends_html(kind, line) {
-        return Ok(FirstLine::Ends);
+        return Ok(LeafLine::Last(Ending::Plain));
     }
-    Ok(FirstLine::Opens)
+    Ok(LeafLine::Stays)
 }
 
 /// Opens a run of text, which starts with the line after its indentation (4.8 Paragraphs).
 #[inline(always)]
-fn begin_run(leaf: &mut OpenLeaf, line: &View<'_>) -> Result<FirstLine, AllocError>
+fn begin_run(leaf: &mut OpenLeaf, line: &View<'_>) -> Result<(), AllocError>
     requires { leaf_of leaf.old ≡ no_leaf }
-    ensures { IfOk result (λ first. (by : all.Rules) → begins_leaf (first_of first leaf.new)
+    ensures { OnOk result ((by : all.Rules) → begins_leaf (stays_open (leaf_of leaf.new))
         ≡ begin_of_start by starts.TextLine (seen_view line.now)) }
 {
     leaf.kind = LeafKind::Run;
-    leaf.text.push(content(line))?;
-    Ok(FirstLine::Opens)
+    leaf.text.push(content(line))
 }
 
-/// Opens a leaf block with its first line, by what that starts. A leaf of one line isn't opened, and
-/// neither a quote's nor an item's marker opens one. No leaf is open so far.
+/// Opens a leaf block with its first line, by what that starts. Returns what the line is to it. A leaf of
+/// one line isn't opened, and neither a quote's nor an item's marker opens one. No leaf is open so far.
 #[inline(always)]
 pub(crate) fn begin_leaf(
     alloc: Global,
@@ -145,17 +134,20 @@ pub(crate) fn begin_leaf(
     leaf: &mut OpenLeaf,
     start: &LeafStart<'_>,
     line: &View<'_>,
-) -> Result<Option<FirstLine>, NoMemory>
+) -> Result<LeafLine, NoMemory>
     requires { leaf_of leaf.old ≡ no_leaf }
-    ensures leaf { IfOk result (λ first. IfSome first (λ f. begins_leaf (first_of f leaf.new)
-        ≡ begin_of_start rules (seen start.now.found) (seen_view line.now))) }
-    ensures other { IfOk result (λ first. IfNone first (opens_leaf (seen start.now.found) ≡ false)) }
+    ensures { IfOk result (λ first. first_of first leaf.new
+        ≡ given (opens_leaf (seen start.now.found))
+        (begin_of_start rules (seen start.now.found) (seen_view line.now))) }
 {
     match &start.found {
-        Start::TextLine => Ok(Some(begin_run(leaf, line)?)),
-        Start::IndentedCode => Ok(Some(begin_code(leaf, line)?)),
-        Start::Fence(fence) => Ok(Some(begin_fence(alloc, rules, leaf, *fence, line)?)),
-        Start::Html(kind) => Ok(Some(begin_html(leaf, *kind, line)?)),
-        Start::Atx(_) | Start::Break | Start::QuoteMarker | Start::Item(_) => Ok(None),
+        Start::TextLine => begin_run(leaf, line)?,
+        Start::IndentedCode => begin_code(leaf, line)?,
+        Start::Fence(fence) => begin_fence(alloc, rules, leaf, *fence, line)?,
+        Start::Html(kind) => return Ok(begin_html(leaf, *kind, line)?),
+        Start::Atx(_) | Start::Break | Start::QuoteMarker | Start::Item(_) => {
+            return Ok(LeafLine::Leaves);
+        }
     }
+    Ok(LeafLine::Stays)
 }

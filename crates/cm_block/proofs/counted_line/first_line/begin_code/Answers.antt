@@ -1,4 +1,5 @@
 use Rattle.std.proofs.Common.{◌≡◌, [], ◌++◌, ap₂, ◌∙◌}
+use Rattle.std.proofs.lemmas.Result.{on_ok_weaker}
 use Rattle.cm_text.specs.Lines.{LineView}
 use Rattle.cm_text.specs.Views.{seen_view}
 use Rattle.cm_block.proofs.lemmas.FeedLemmas.{feeds_of_first}
@@ -6,11 +7,12 @@ use Rattle.cm_block.proofs.lemmas.LeafLemmas.{no_text, code_begins}
 use Rattle.cm_block.proofs.counted_line.first_line.begin_code.Goals as goal
 
 pub returns : goal.returns
-returns c by =
+returns c =
     let text = c.args.leaf.now.text in
     let empty : text ≡ [] = no_text c.args.leaf.now c.requires in
+    on_ok_weaker c.push_line.result (λ pushed by.
     code_begins by c.push_line.new.text c.clear.new.self (seen_view c.args.line.now)
-    (c.in_ok-push_line.ensures ∙ ap₂ (λ t (l : LineView). t ++ l.text) empty c.strip.ensures.line)
+    (pushed ∙ ap₂ (λ t (l : LineView). t ++ l.text) empty c.strip.ensures.line)
     (feeds_of_first c.push_line.new.text text c.strip.result.spaces c.strip.result.rest.now
-    empty c.in_ok-push_line.ensures c.strip.result.one_line)
-    c.clear.ensures
+    empty pushed c.strip.result.one_line)
+    c.clear.ensures) c.push_line.ensures

@@ -1,4 +1,4 @@
-use Rattle.std.proofs.Common.{◌≡◌, [], ◌++◌, ap, ◌∙◌}
+use Rattle.std.proofs.Common.{◌≡◌, [], ◌++◌, Some, ap, ◌∙◌}
 use Rattle.cm_text.specs.Views.{seen_view}
 use Rattle.cm_scan.specs.blocks.HtmlKinds.{kind_of}
 use Rattle.cm_block.proofs.lemmas.FeedLemmas.{feeds_of_first}
@@ -10,19 +10,19 @@ returns-then-ends_html c by =
     let line = seen_view c.args.line.now in
     let text = c.args.leaf.now.text in
     let empty : text ≡ [] = no_text c.args.leaf.now c.requires in
-    html_whole by (kind_of c.args.kind) c.push_line.new.text line
+    ap Some (html_whole by (kind_of c.args.kind) c.push_line.new.text line
     (c.in_ok-push_line.ensures ∙ ap (λ t. t ++ line.text) empty)
     (feeds_of_first c.push_line.new.text text c.args.line.now.spaces c.args.line.now.rest.now
     empty c.in_ok-push_line.ensures c.args.line.now.one_line)
-    c.if-ends_html.ensures
+    c.if-ends_html.ensures)
 
 pub returns : goal.returns
 returns c by =
     let line = seen_view c.args.line.now in
     let text = c.args.leaf.now.text in
     let empty : text ≡ [] = no_text c.args.leaf.now c.requires in
-    html_begins by (kind_of c.args.kind) c.push_line.new.text line
+    ap Some (html_begins by (kind_of c.args.kind) c.push_line.new.text line
     (c.in_ok-push_line.ensures ∙ ap (λ t. t ++ line.text) empty)
     (feeds_of_first c.push_line.new.text text c.args.line.now.spaces c.args.line.now.rest.now
     empty c.in_ok-push_line.ensures c.args.line.now.one_line)
-    c.if-ends_html.ensures
+    c.if-ends_html.ensures)

@@ -8,11 +8,11 @@ use Rattle.cm_scan.specs.blocks.HtmlBlocks.{is_html_end}
 use Rattle.cm_scan.specs.blocks.HtmlKinds.{kind_of}
 use Rattle.cm_scan.specs.blocks.Parts.{html}
 use Rattle.cm_scan.specs.blocks.Blocks.{line_feeds, add_text, next_line}
-use Rattle.cm_block.specs.declared.open_leaf.Ending.TheVariants.{Plain, Underline, ClosingFence}
-use Rattle.cm_block.specs.OpenLeaf.{open_text, open_fence, open_html, stays_open, is_last}
+use Rattle.cm_block.specs.declared.open_leaf.Ending.TheVariants.{Plain, ClosingFence}
+use Rattle.cm_block.specs.OpenLeaf.{open_fence, open_html, stays_open, is_last}
 use Rattle.cm_block.specs.LeafViews.{ended, leaf_with}
-use Rattle.cm_block.specs.steps.LeafSteps.{leaves_of_kind}
-use Rattle.cm_block.proofs.lemmas.LeafLemmas.{line_by_kind, no_line, text_line, fence_line, html_out, html_line, one_more}
+use Rattle.cm_block.specs.steps.LeafSteps.{leaf_line, leaves_of_kind}
+use Rattle.cm_block.proofs.lemmas.LeafLemmas.{line_by_kind, no_line, run_goes_on, run_ends, fence_line, html_out, html_line, one_more}
 use Rattle.cm_block.proofs.open_leaf.OpenLeaf.take_line.Goals as goal
 
 pub returns-in-Nothing-clause-line : goal.returns-in-Nothing-clause-line
@@ -20,27 +20,18 @@ returns-in-Nothing-clause-line c =
     let line = seen_view c.args.line.now.rest in
     no_line _ line ∙ line_by_kind c.args.rules c.args.self.now _ line c.in-Nothing.is
 
-pub returns-in_ok-add_text-in-GoesOn-clause-line : goal.returns-in_ok-add_text-in-GoesOn-clause-line
-returns-in_ok-add_text-in-GoesOn-clause-line c =
+pub returns-in_ok-add_text-in-Run-clause-line : goal.returns-in_ok-add_text-in-Run-clause-line
+returns-in_ok-add_text-in-Run-clause-line c =
     let line = seen_view c.args.line.now.rest in
     let source = c.args.self.now.text in
-    ap (λ k. Some (stays_open (leaf_with k c.add_text.new.source c.args.self.now.blank_lines (string_bytes c.args.self.now.info)))) c.in-Run.is
-    ∙ ap (λ t. Some (stays_open (open_text t))) (c.in_ok-add_text-in-GoesOn.ensures.text ∙ ap (λ (v : View). add_text source (seen_view v)) c.in-GoesOn.ensures.same)
-    ∙ text_line _ source line _ (c.in-GoesOn.ensures.next ∙ ap (λ t. next_line c.args.rules t line) c.as_str.ensures)
-    ∙ line_by_kind c.args.rules c.args.self.now _ line c.in-Run.is
+    let next = c.next_line-next.ensures in
+    run_goes_on c.args.rules c.args.self.now _ line _ c.in-Run.is c.in-Run.is c.in-Stays.is (next.next ∙ ap (λ t. leaf_line (next_line c.args.rules t line)) c.as_str.ensures)
+    (c.in_ok-add_text-in-Run.ensures.text ∙ ap (λ (v : View). add_text source (seen_view v)) next.same)
 
-pub returns-in-Ends-clause-line : goal.returns-in-Ends-clause-line
-returns-in-Ends-clause-line c =
+pub returns-in_default-clause-line : goal.returns-in_default-clause-line
+returns-in_default-clause-line c =
     let line = seen_view c.args.line.now.rest in
-    text_line _ c.args.self.now.text line _ (c.in-Ends.ensures.next ∙ ap (λ t. next_line c.args.rules t line) c.as_str.ensures)
-    ∙ line_by_kind c.args.rules c.args.self.now _ line c.in-Run.is
-
-pub returns-in-Underlines-clause-line : goal.returns-in-Underlines-clause-line
-returns-in-Underlines-clause-line c =
-    let line = seen_view c.args.line.now.rest in
-    ap (λ k. Some (is_last (leaves_of_kind (Underline c.in-Underlines.level) k c.args.self.now.text (string_bytes c.args.self.now.info)))) c.in-Run.is
-    ∙ text_line _ c.args.self.now.text line _ (c.in-Underlines.ensures.next ∙ ap (λ t. next_line c.args.rules t line) c.as_str.ensures)
-    ∙ line_by_kind c.args.rules c.args.self.now _ line c.in-Run.is
+    run_ends c.args.rules c.args.self.now line _ c.in-Run.is c.in_default.not-Stays (c.next_line-next.ensures.next ∙ ap (λ t. leaf_line (next_line c.args.rules t line)) c.as_str.ensures)
 
 pub returns-then-closes_fence-clause-line : goal.returns-then-closes_fence-clause-line
 returns-then-closes_fence-clause-line c =
