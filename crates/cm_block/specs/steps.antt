@@ -8,7 +8,6 @@ pub mod LevelSteps
 pub mod FrameSteps
 pub mod LeafSteps
 pub mod LeafBlocks
-pub mod Looks
 pub mod FrameStarts
 pub mod ParserSteps
 pub mod LineTests

@@ -5,15 +5,16 @@
 //! The count stops at the greatest number of its type. It is proved that the lines that fit in memory don't
 //! reach it.
 ghost use Rattle.std.specs.Prelude.{◌≡◌, ◌+◌, ◌++◌, ◌∷◌, ◌&&◌, ℕ};
-ghost use Rattle.std.specs.Prelude.{List, [], suc, true, false, IfOk, IfSome, OnOk};
+ghost use Rattle.std.specs.Prelude.{List, [], suc, true, false, IfOk, IfSome, IfNone, OnOk};
 ghost use Rattle.cm_block.specs.Prelude.{strip_columns, seen_view, given, is_blank, with_ending};
 ghost use Rattle.cm_block.specs.Prelude.{is_html_end, kind_of, continuation_if_lazy, continuation_in_quote};
 ghost use Rattle.cm_block.specs.Prelude.{continuation_in_item, interrupts_paragraph, underline_of};
 ghost use Rattle.cm_block.specs.Prelude.{goes_inward};
-ghost use Rattle.cm_block.specs.Prelude.{line_feeds, add_text, closes_fence, plain_lines_of};
+ghost use Rattle.cm_block.specs.Prelude.{line_feeds, next_line, add_text, closes_fence, plain_lines_of};
 ghost use Rattle.cm_text.specs.Rules as all;
 ghost use Rattle.cm_block.specs.OpenLeaf.{no_leaf, stays_open, line_of_leaf, begin_of_start};
 ghost use Rattle.cm_block.specs.LeafViews.{code_of, leaf_of};
+ghost use Rattle.cm_block.specs.steps.LeafSteps.{leaf_line};
 ghost use Rattle.cm_block.specs.steps.LineTests.{Tested};
 ghost use Rattle.cm_block.specs.steps.TextRuns.{add_lines};
 ghost use Rattle.cm_block.specs.steps.StartViews.{seen};
@@ -88,22 +89,9 @@ pub(crate) enum Begins<'a> {
     Leaf(LeafStart<'a>),
 }
 
-/// What a line is, as far as one look shows.
-#[derive(Clone, Copy, Debug)]
-pub(crate) enum Look {
-    /// It is blank.
-    Blank,
-    /// It starts, without indentation, with a byte with which only text starts: after a paragraph it
-    /// continues that.
-    Text,
-    /// Neither.
-    Other,
-}
-
 impl<'a> CountedLine<'a> {
     ghost use Rattle.cm_block.specs.steps.LineTests.{ReadOnce};
     ghost use Rattle.cm_block.specs.steps.FirstLines.{Found};
-    ghost use Rattle.cm_block.specs.steps.Looks.{LooksLike};
 
     /// A whole line, not read yet.
     pub(crate) fn new(line: View<'a>) -> CountedLine<'a>
@@ -304,23 +292,26 @@ impl<'a> CountedLine<'a> {
         is_blank(&self.read())
     }
 
-    /// What the line is, as far as one look shows.
+    /// What the line is to a run of text, if one look shows that: none of its lines if it is blank, and one if
+    /// it starts, without indentation, with a byte with which only text starts.
     #[inline(always)]
-    pub(crate) fn look(&mut self) -> Look
-        ensures look { LooksLike result (seen_view self.old.rest) }
+    pub(crate) fn look(&mut self) -> Option<LeafLine>
+        ensures next { IfSome result (λ next. (by : all.Rules) (source : List ℕ) →
+            next ≡ leaf_line (next_line by source (seen_view self.old.rest))) }
+        ensures other { IfNone result (is_blank (seen_view self.old.rest) ≡ false) }
         ensures read { ReadOnce self.old self.new }
     {
         let view = self.read();
         if begins_with_letter(&view) {
-            return Look::Text;
+            return Some(LeafLine::Stays);
         }
         if is_blank(&view) {
-            return Look::Blank;
+            return Some(LeafLine::Leaves);
         }
         if begins_as_text(&view) {
-            return Look::Text;
+            return Some(LeafLine::Stays);
         }
-        Look::Other
+        None
     }
 
     /// The heading level that the line gives, as an underline, to the text above it (4.3 Setext headings).

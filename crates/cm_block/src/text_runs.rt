@@ -6,7 +6,7 @@ ghost use Rattle.cm_block.specs.declared.open_leaf.LeafLine.TheVariants.{Leaves}
 ghost use Rattle.cm_block.specs.steps.LineTests.{Tested, ReadOnce};
 ghost use Rattle.cm_block.specs.steps.LeafSteps.{leaf_line, heading_level};
 
-use crate::counted_line::{CountedLine, Look};
+use crate::counted_line::CountedLine;
 use crate::open_leaf::{Ending, LeafLine};
 use cm_scan::{definition, trim_end};
 use cm_text::Rules;
@@ -64,10 +64,8 @@ pub(crate) fn next_line(rules: Rules, source: &str, line: &mut CountedLine<'_>) 
     ensures tests { Tested 1 3 line.old.tests line.new.tests }
     ensures lazy { result ≡ Leaves → line.old.rest.lazy ≡ true → line.new.tests ≤ line.old.tests + 1 }
 {
-    match line.look() {
-        Look::Blank => return LeafLine::Leaves,
-        Look::Text => return LeafLine::Stays,
-        Look::Other => {}
+    if let Some(next) = line.look() {
+        return next;
     }
     if let Some(level) = heading_level(source, line) {
         return LeafLine::Last(Ending::Underline(level));
