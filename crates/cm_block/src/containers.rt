@@ -2,6 +2,7 @@
 ghost use Rattle.std.specs.Prelude.{◌≡◌, ◌-◌, ◌≤◌, false, suc, length, IfOk, OnOk};
 ghost use Rattle.cm_block.specs.Prelude.{seen_view};
 ghost use Rattle.cm_block.specs.steps.LineTests.{Tested};
+ghost use Rattle.cm_block.specs.steps.FrameSteps.{closed_to};
 ghost use Rattle.cm_block.specs.steps.FrameStarts.{Inside};
 
 use crate::counted_line::{Begins, CountedLine, LeafStart};
@@ -22,32 +23,47 @@ pub(crate) enum Innermost<'a> {
 }
 
 impl Stack {
-    /// Opens the quotes and items that a line starts, up to the limit of open ones. No leaf is open.
+    /// Closes all containers but the first `depth`, in which the line stays, and opens the quotes and items
+    /// that it starts there, up to the limit of open ones. No leaf is open.
     pub(crate) fn open_containers<'a>(
         &mut self,
         alloc: Global,
         rules: Rules,
         limit: usize,
+        depth: usize,
         line: &mut CountedLine<'a>,
     ) -> Result<Innermost<'a>, RawFault>
-        requires { self.old.bare ≡ false }
-        ensures inside { IfOk result (λ innermost. Inside rules limit self.old
+        requires plain { self.old.bare ≡ false }
+        requires within { depth ≤ length self.old.frames }
+        ensures inside { IfOk result (λ innermost. Inside rules limit (closed_to depth self.old)
             (seen_view line.old.rest) self.new (seen_view line.new.rest) innermost) }
-        ensures deeper { OnOk result (length self.old.frames ≤ length self.new.frames) }
-        ensures tests { OnOk result (Tested (length self.new.frames - length self.old.frames)
-            (suc (length self.new.frames - length self.old.frames)) line.old.tests line.new.tests) }
+        ensures deeper { OnOk result (depth ≤ length self.new.frames) }
+        ensures tests { OnOk result (Tested (length self.new.frames - depth)
+            (suc (length self.new.frames - depth)) line.old.tests line.new.tests) }
     {
-        while self.depth() <= limit {
+        let mut kept = depth;
+        while kept <= limit {
             match line.begins(rules) {
-                Begins::Nothing => return Ok(Innermost::Blank),
-                Begins::Quote => self.open_quote(alloc)?,
+                Begins::Nothing => {
+                    self.close_to(kept)?;
+                    return Ok(Innermost::Blank);
+                }
+                Begins::Quote => {
+                    self.close_to(kept)?;
+                    self.open_quote(alloc)?;
+                }
                 Begins::Item { kind, column, bare } => {
-                    self.open_item(alloc, kind, column)?;
+                    self.next_item(alloc, kept, kind, column)?;
                     self.set_bare(bare);
                 }
-                Begins::Leaf(start) => return Ok(Innermost::Leaf(start)),
+                Begins::Leaf(start) => {
+                    self.close_to(kept)?;
+                    return Ok(Innermost::Leaf(start));
+                }
             }
+            kept = self.depth();
         }
+        self.close_to(kept)?;
         Ok(Innermost::TooDeep)
     }
 }

@@ -4,6 +4,7 @@ ghost use Rattle.cm_block.specs.Prelude.{Raw, Grows, block_in, blocks_in, item_i
 ghost use Rattle.cm_block.specs.Prelude.{IsPlaced, ArePlaced, IsItem};
 ghost use Rattle.cm_block.specs.Level.{empty_level, closed_blocks, push_blank, block_opens};
 ghost use Rattle.cm_block.specs.Level.{list_opens, item_opens, block_closes, item_closes};
+ghost use Rattle.cm_block.specs.Stack.{item_of};
 ghost use Rattle.cm_block.specs.steps.LevelViews.{level_in, IsLevelPlaced};
 ghost use Rattle.cm_block.specs.steps.LevelSteps.{item_with, without_list, has_list_of, goes_on};
 
@@ -201,6 +202,35 @@ impl Level {
         }
         self.has_block = true;
         self.ends_blank = ends_blank;
+        Ok(())
+    }
+
+    /// Closes the item with these blocks in the outer level, and continues its list there with the next item,
+    /// which has no blocks yet. Their memory is used again.
+    #[inline(always)]
+    pub(crate) fn begin_next_item(
+        &mut self,
+        raw: &mut RawBlocks,
+        room: &mut Room,
+        outer: &mut Level,
+    ) -> Result<(), RawFault>
+        requires inner { IsLevelPlaced raw.old self.old }
+        requires outer { IsLevelPlaced raw.old outer.old }
+        ensures outer { OnOk result (level_in raw.new outer.new
+            ≡ goes_on (item_closes (level_in raw.old outer.old) (item_of (level_in raw.old self.old)))) }
+        ensures level { OnOk result (level_in raw.new self.new ≡ empty_level) }
+        ensures outer_placed { IsLevelPlaced raw.new outer.new }
+        ensures placed { IsLevelPlaced raw.new self.new }
+        ensures grows { Grows raw.old raw.new }
+    {
+        self.close_list(raw, room)?;
+        let item = raw.item(&self.blocks)?;
+        outer.close_item(item, self.ends_blank, self.separated)?;
+        outer.go_on();
+        self.blocks.clear();
+        self.has_block = false;
+        self.ends_blank = false;
+        self.separated = false;
         Ok(())
     }
 

@@ -14,7 +14,7 @@ ghost use Rattle.cm_block.specs.declared.fault.BlockFault.TheVariants as block_f
 ghost use Rattle.cm_block.specs.OpenLeaf.{no_leaf};
 ghost use Rattle.cm_block.specs.Machine.{in_leaf};
 ghost use Rattle.cm_block.specs.Stack.{close_open, own_open, push_line};
-ghost use Rattle.cm_block.specs.steps.FrameSteps.{quoted_by};
+ghost use Rattle.cm_block.specs.steps.FrameSteps.{quoted_by, closed_to};
 ghost use Rattle.cm_block.specs.LeafViews.{leaf_of};
 ghost use Rattle.cm_block.specs.steps.StartViews.{seen};
 ghost use Rattle.cm_block.specs.steps.FirstLines.{begins_container};
@@ -167,18 +167,21 @@ impl BlockParser {
         }
     }
 
-    /// Opens what a line starts in the innermost container, where no leaf is open.
-    fn begin(&mut self, line: &mut CountedLine<'_>) -> Result<(), BlockFault>
+    /// Closes all containers but the first `depth`, in which the line stays, and opens what it starts there.
+    /// No leaf is open.
+    fn begin(&mut self, depth: usize, line: &mut CountedLine<'_>) -> Result<(), BlockFault>
         requires plain { self.old.stack.bare ≡ false }
+        requires within { depth ≤ length self.old.stack.frames }
         requires leaf { leaf_of self.old.leaf ≡ no_leaf }
         ensures pushed { OnOk result (stack_of self.new
-            ≡ begun_by self.old.limits.rules self.old.stack (seen_view line.old.rest) self.old.owners) }
+            ≡ begun_by self.old.limits.rules (closed_to depth self.old.stack)
+            (seen_view line.old.rest) self.old.owners) }
         ensures few { OnOk result (length self.new.stack.frames ≤ self.old.limits.blocks) }
-        ensures deeper { OnOk result (length self.old.stack.frames ≤ length self.new.stack.frames) }
-        ensures tests { OnOk result (Tested (length self.new.stack.frames - length self.old.stack.frames)
-            (length self.new.stack.frames - length self.old.stack.frames + 2) line.old.tests line.new.tests) }
+        ensures deeper { OnOk result (depth ≤ length self.new.stack.frames) }
+        ensures tests { OnOk result (Tested (length self.new.stack.frames - depth)
+            (length self.new.stack.frames - depth + 2) line.old.tests line.new.tests) }
         ensures deep { IfErr result (λ fault. DeepIn fault self.old.limits.blocks
-            (begun_by self.old.limits.rules self.old.stack
+            (begun_by self.old.limits.rules (closed_to depth self.old.stack)
             (seen_view line.old.rest) self.old.owners) self.old.owners) }
         ensures limits { self.new.limits ≡ self.old.limits }
         ensures counted { self.new.tests ≡ self.old.tests }
@@ -188,6 +191,7 @@ impl BlockParser {
             self.alloc,
             self.limits.rules(),
             self.limits.blocks(),
+            depth,
             line,
         )?;
         match innermost {
@@ -270,8 +274,7 @@ impl BlockParser {
             return Ok(());
         }
         self.close_leaf()?;
-        self.stack.close_to(depth)?;
-        self.begin(line)
+        self.begin(depth, line)
     }
 
     /// Reads one more line. It isn't kept.

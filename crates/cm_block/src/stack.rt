@@ -6,6 +6,9 @@
 //!
 //! Only the innermost container can be an item with only its marker. So one mark on the stack
 //! suffices, and no open container changes when a line enters it.
+//!
+//! The next item of a list takes the place of the one before: its container stays, and the level inside is
+//! emptied. So between items nothing is taken from the stack and put back.
 ghost use Rattle.std.specs.Prelude.{◌≡◌, ◌<◌, ◌≤◌, ◌∷◌, ◌++◌, ◌+◌, ◌&&◌, []};
 ghost use Rattle.std.specs.Prelude.{Bool, true, false, suc, List, length, take, drop, None, OnOk, IfOk};
 ghost use Rattle.cm_text.specs.Rules as all;
@@ -18,6 +21,7 @@ ghost use Rattle.cm_block.specs.steps.LevelViews.{level_in, IsLevelPlaced};
 ghost use Rattle.cm_block.specs.Frames.{a_quote, an_item, is_last, Frame as open_frame};
 ghost use Rattle.cm_block.specs.steps.FrameSteps.{continuation_in, inward, matching, behind, LeavesNext};
 ghost use Rattle.cm_block.specs.steps.FrameSteps.{quoted_by, close_container, close_frames};
+ghost use Rattle.cm_block.specs.steps.FrameSteps.{closed_to, is_continued_by};
 ghost use Rattle.cm_block.specs.steps.ContinuationViews.{IsInside, stays};
 ghost use Rattle.cm_block.specs.declared.stack.Stays.TheVariants.{Inside, Lazily, Leaves};
 ghost use Rattle.cm_block.specs.steps.FrameViews.{container_of, frames_in, AreFramesPlaced};
@@ -27,7 +31,7 @@ use crate::leaf_block::LeafBlock;
 use crate::level::Level;
 use crate::room::Room;
 use cm_text::Rules;
-use cm_tree::{Items, ListKind, RawBlock, RawBlocks, RawChunk, RawFault, RawTree};
+use cm_tree::{ListKind, RawBlock, RawBlocks, RawChunk, RawFault, RawTree};
 use std::alloc::{AllocError, Global};
 use std::marker::Model;
 use std::mem;
@@ -98,6 +102,16 @@ impl Container {
 pub(crate) struct Frame {
     pub(crate) level: Level,
     pub(crate) container: Container,
+}
+
+impl Frame {
+    /// Whether the container is an item, and one of this kind continues its list.
+    fn is_continued_by(&self, kind: ListKind) -> bool
+        ensures { (raw : Raw) → result
+            ≡ is_continued_by kind (container_of self.now.container) (level_in raw self.now.level) }
+    {
+        matches!(self.container, Container::Item { .. }) && self.level.has_list_of(kind)
+    }
 }
 
 /// The number of items that a line has entered by itself, and whether the next container is an item in which
@@ -269,7 +283,7 @@ pub(crate) struct Stack {
     alloc: Global,
     /// The chunks that are finished.
     chunks: RawTree,
-    frames: Items<Frame>,
+    frames: Vec<Frame>,
     bare: bool,
     level: Level,
     raw: RawBlocks,
@@ -291,12 +305,12 @@ impl Model for Stack {
     ghost coded = { Prim.hlevel (codes, block.the_row.coded, list_kind.the_row.coded) };
 
     ghost view = { λ s. record {
-      frames = frames_behind s.chunks (frames_in s.raw s.frames);
+      frames = frames_behind s.chunks (frames_in s.raw s.frames.items);
       bare = s.bare;
-      level = innermost s.chunks (frames_in s.raw s.frames) (level_in s.raw s.level);
+      level = innermost s.chunks (frames_in s.raw s.frames.items) (level_in s.raw s.level);
     } };
 
-    ghost invariant = { λ s. AreFramesPlaced s.raw s.frames × IsLevelPlaced s.raw s.level };
+    ghost invariant = { λ s. AreFramesPlaced s.raw s.frames.items × IsLevelPlaced s.raw s.level };
 }
 
 impl Stack {
@@ -309,7 +323,7 @@ impl Stack {
         Stack {
             alloc,
             chunks: RawTree::new(alloc),
-            frames: Items::new(alloc),
+            frames: Vec::new(alloc),
             bare: false,
             level: Level::new(Vec::new(alloc)),
             raw: RawBlocks::new(alloc),
@@ -379,12 +393,7 @@ impl Stack {
     }
 
     /// Opens an item.
-    pub(crate) fn open_item(
-        &mut self,
-        alloc: Global,
-        kind: ListKind,
-        column: usize,
-    ) -> Result<(), RawFault>
+    fn open_item(&mut self, alloc: Global, kind: ListKind, column: usize) -> Result<(), RawFault>
         ensures frames { OnOk result (self.new.frames
             ≡ self.old.frames
             ++ record { level = item_opens self.old.level kind; container = an_item kind column } ∷ []) }
@@ -454,6 +463,88 @@ impl Stack {
             self.close_last()?;
         }
         Ok(())
+    }
+
+    /// Puts an item in the place of the innermost container, if that is an item of the same list. Returns
+    /// whether it is.
+    fn replace_item(&mut self, kind: ListKind, column: usize) -> Result<bool, RawFault>
+        ensures frames { IfOk result (λ replaced. replaced ≡ true →
+            (outer : List open_frame) (last : open_frame) → self.old.frames ≡ outer ++ last ∷ [] →
+            self.new.frames ≡ outer ++ record {
+              level = item_opens (close_container last.container last.level self.old.level) kind;
+              container = an_item kind column;
+            } ∷ []) }
+        ensures level { IfOk result (λ replaced. replaced ≡ true → self.new.level ≡ empty_level) }
+        ensures same { IfOk result (λ replaced. replaced ≡ false → self.new ≡ self.old) }
+        ensures bare { self.new.bare ≡ self.old.bare }
+    {
+        let Some(frame) = self.frames.last_mut() else {
+            return Ok(false);
+        };
+        if !frame.is_continued_by(kind) {
+            return Ok(false);
+        }
+        self.level
+            .begin_next_item(&mut self.raw, &mut self.room, &mut frame.level)?;
+        frame.container = Container::Item { kind, column };
+        Ok(true)
+    }
+
+    /// Closes the containers after the first `depth`, because an item starts. If it continues the list of the
+    /// outermost of these, it takes its place. Returns whether it does.
+    #[inline(always)]
+    fn close_to_item(
+        &mut self,
+        depth: usize,
+        kind: ListKind,
+        column: usize,
+    ) -> Result<bool, RawFault>
+        requires { depth ≤ length self.old.frames }
+        ensures frames { IfOk result (λ replaced. replaced ≡ true → self.new.frames
+            ≡ take depth self.old.frames
+            ++ record {
+              level = item_opens (close_frames (drop depth self.old.frames) self.old.level) kind;
+              container = an_item kind column;
+            } ∷ []) }
+        ensures level { IfOk result (λ replaced. replaced ≡ true → self.new.level ≡ empty_level) }
+        ensures closed { IfOk result (λ replaced. replaced ≡ false →
+            self.new ≡ closed_to depth self.old) }
+        ensures bare { self.new.bare ≡ self.old.bare }
+    {
+        if self.depth() == depth {
+            return Ok(false);
+        }
+        self.close_to(depth + 1)?;
+        if self.replace_item(kind, column)? {
+            return Ok(true);
+        }
+        self.close_to(depth)?;
+        Ok(false)
+    }
+
+    /// Closes the containers after the first `depth`, and opens an item.
+    #[inline(always)]
+    pub(crate) fn next_item(
+        &mut self,
+        alloc: Global,
+        depth: usize,
+        kind: ListKind,
+        column: usize,
+    ) -> Result<(), RawFault>
+        requires { depth ≤ length self.old.frames }
+        ensures frames { OnOk result (self.new.frames
+            ≡ take depth self.old.frames
+            ++ record {
+              level = item_opens (close_frames (drop depth self.old.frames) self.old.level) kind;
+              container = an_item kind column;
+            } ∷ []) }
+        ensures level { OnOk result (self.new.level ≡ empty_level) }
+        ensures bare { self.new.bare ≡ self.old.bare }
+    {
+        if self.close_to_item(depth, kind, column)? {
+            return Ok(());
+        }
+        self.open_item(alloc, kind, column)
     }
 
     /// How many containers are open.

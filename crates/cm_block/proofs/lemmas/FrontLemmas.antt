@@ -6,10 +6,11 @@ use Rattle.cm_text.specs.Lines.{LineView}
 use Rattle.cm_tree.specs.declared.tree.Block.{Block}
 use Rattle.cm_tree.specs.declared.tree.ListKind.{ListKind}
 use Rattle.cm_scan.specs.blocks.LineForms.{is_same_kind}
-use Rattle.cm_block.specs.Level.{OpenList, Level, with_list, closed_blocks, separated_next, block_opens, block_closes, Item, item_closes, item_opens, item_opens_in, list_opens, list_goes_on}
-use Rattle.cm_block.specs.Frames.{Container, Frame}
-use Rattle.cm_block.specs.steps.FrameSteps.{matching, quoted_by}
-use Rattle.cm_block.specs.steps.LevelSteps.{has_list_of, is_list_of}
+use Rattle.cm_block.specs.Level.{OpenList, Level, with_list, closed_blocks, separated_next, block_opens, block_closes, Item, with_item, item_closes, item_opens, item_opens_in, list_opens, list_goes_on}
+use Rattle.cm_block.specs.Stack.{item_of}
+use Rattle.cm_block.specs.Frames.{Container, a_quote, an_item, Frame}
+use Rattle.cm_block.specs.steps.FrameSteps.{matching, quoted_by, close_container, is_continued_by}
+use Rattle.cm_block.specs.steps.LevelSteps.{has_list_of, is_list_of, goes_on}
 use Rattle.cm_block.specs.steps.FrontViews.{level_behind, frames_behind, innermost}
 use Rattle.cm_block.proofs.lemmas.FrameStartLemmas.{frame}
 
@@ -29,6 +30,30 @@ items-open-again kind level other = ap (λ mark. opened mark) (settled level.has
     by-list : (list : Option OpenList) → is_list_of list kind ≡ false → list_opens level kind ≡ item_opens_in level list kind
     by-list None other = refl
     by-list (Some list) other = ap (λ same. elim same [ true ↦ list_goes_on level list | false ↦ list_opens level kind ]) (sym other)
+
+-- The next item of a list opens where the one before is closed.
+
+pub item-closes : (kind : ListKind) (container : Container) (outer level inside : Level) → is_continued_by kind container outer ≡ true → item_closes level (item_of inside) ≡ close_container container level inside
+item-closes kind a_quote outer level inside continued = absurd (cc continued)
+item-closes kind (an_item k column) outer level inside continued = refl
+
+abbrev with_closed : Item → Level → Option OpenList → Level
+with_closed item level list = record { blocks = level.blocks; open_list = with_item list item; has_block = true; ends_blank = item.ends_blank; separated = level.separated }
+
+pub next-opens : (kind : ListKind) (container : Container) (level : Level) (item : Item) → is_continued_by kind container level ≡ true → goes_on (item_closes level item) ≡ item_opens (item_closes level item) kind
+next-opens kind a_quote level item continued = absurd (cc continued)
+next-opens kind (an_item k column) level item continued = by-list level.open_list continued
+  where
+    by-kind : (list : OpenList) (same : Bool) → same ≡ true → goes_on (with_closed item level (Some list)) ≡ elim same as (λ _. Level) [
+      | true ↦ list_goes_on (with_closed item level (Some list)) (record { kind = list.kind; loose = list.loose || item.separated; items = list.items ++ item.blocks ∷ [] })
+      | false ↦ list_opens (with_closed item level (Some list)) kind
+    ]
+    by-kind list true is = refl
+    by-kind list false is = absurd (cc is)
+
+    by-list : (list : Option OpenList) → is_list_of list kind ≡ true → goes_on (with_closed item level list) ≡ item_opens_in (with_closed item level list) (with_item list item) kind
+    by-list None is = absurd (cc is)
+    by-list (Some list) is = by-kind list (is_same_kind list.kind kind) is
 
 module _ (front : List Block) where
   -- ---- one level

@@ -16,9 +16,9 @@ use Rattle.cm_block.specs.steps.FrameViews.{container_of, frame_in, frames_in}
 use Rattle.cm_block.specs.Level.{Level}
 use Rattle.cm_block.proofs.lemmas.Lazy.{starts_text, continuation-quote, continuation-item}
 use Rattle.std.proofs.lemmas.Bool.{eqb-true}
-use Rattle.std.proofs.lemmas.List.{length_push, take_all, drop_all}
+use Rattle.std.proofs.lemmas.List.{length_push, length-take-le, take_all, drop_all}
 use Rattle.cm_block.specs.Frames.{Container, a_quote, an_item, Frame, Row, is_last}
-use Rattle.cm_block.specs.steps.FrameSteps.{continuation_in, inward, matching, behind, LeavesNext, quoted_in, quoted_by, close_container, close_frames}
+use Rattle.cm_block.specs.steps.FrameSteps.{continuation_in, inward, matching, behind, LeavesNext, quoted_in, quoted_by, close_container, close_frames, closed_to}
 
 -- closing from the inside out
 pub close_last : (fs : List Frame) (f : Frame) (level : Level) → close_frames (fs ++ f ∷ []) level ≡ close_frames fs (close_container f.container f.level level)
@@ -281,6 +281,43 @@ one_closed depth before after many closes =
             ∙ ap (λ fs. close_frames (drop depth fs) before.level) (sym all),
       ),
     )
+
+-- the first of the containers that are to be closed is the last of those left when the others are
+pub cut_last : (depth : ℕ) (fs : List Frame) → depth < length fs → (last : Frame) × ((take (depth + 1) fs ≡ take depth fs ++ last ∷ [])
+    × ((level : Level) → close_container last.container last.level (close_frames (drop (depth + 1) fs) level) ≡ close_frames (drop depth fs) level))
+unfolding close_frames
+cut_last depth [] many = absurd (omega arith)
+cut_last zero (f ∷ fs) many = (f, (refl, λ level. refl))
+cut_last (suc depth) (f ∷ fs) many =
+    let next : suc depth + 1 ≡ suc (depth + 1) = omega arith in
+    let last = cut_last depth fs (omega arith) in (
+      last.0,
+      (
+        ap (λ n. take n (f ∷ fs)) next ∙ ap (λ t. f ∷ t) last.1.0,
+        λ level. ap (λ n. close_container last.0.container last.0.level (close_frames (drop n (f ∷ fs)) level)) next ∙ last.1.1 level,
+      ),
+    )
+
+-- a row in which the others are closed, by its fields
+pub closed_row : (depth : ℕ) (before after : Row) → after.frames ≡ take depth before.frames → after.level ≡ close_frames (drop depth before.frames) before.level → after.bare ≡ before.bare
+    → after ≡ closed_to depth before
+closed_row depth before after frames level bare =
+    ap₂ (λ fs v. record { frames = fs; bare = after.bare; level = v }) frames level
+    ∙ ap (λ b. record { frames = take depth before.frames; bare = b; level = close_frames (drop depth before.frames) before.level }) bare
+
+-- closing all but one, and then that one, comes to the same
+pub closed_twice : (depth : ℕ) (row : Row) → depth < length row.frames → closed_to depth (closed_to (depth + 1) row) ≡ closed_to depth row
+unfolding close_frames
+closed_twice depth row many =
+    let last = cut_last depth row.frames many in
+    let rest = close_frames (drop (depth + 1) row.frames) row.level in
+    let long : length (take depth row.frames) ≡ depth = length-take-le depth row.frames (omega (arith, many)) in
+    ap₂ (λ fs level. record { frames = fs; bare = row.bare; level = level })
+    (ap (take depth) last.1.0 ∙ take_last depth (take depth row.frames) last.0 (omega (arith, long)) ∙ take_all depth (take depth row.frames) (omega (arith, long)))
+    (ap (λ fs. close_frames (drop depth fs) rest) last.1.0
+    ∙ sym (closed_last depth (take depth row.frames) last.0 rest _ (omega (arith, long)) refl)
+    ∙ ap (λ fs. close_frames fs (close_container last.0.container last.0.level rest)) (drop_all depth (take depth row.frames) (omega (arith, long)))
+    ∙ last.1.1 row.level)
 
 pub nothing_left : (fs : List Frame) (depth : ℕ) (level : Level) → length fs ≤ depth → level ≡ close_frames (drop depth fs) level
 unfolding close_frames

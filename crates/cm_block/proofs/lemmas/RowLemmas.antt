@@ -1,20 +1,25 @@
 -- A stack as a row: the last frame, once it is taken, and more is there.
-use Rattle.std.proofs.Common.{◌≡◌, length, arith, Bool, Option, Some, None, List, [], ◌∷◌, ◌++◌, refl, append-nil, sym, ap, ap₂, subst, ◌∙◌}
+use Rattle.std.proofs.Common.{◌≡◌, ℕ, ◌-◌, ◌+◌, ◌<◌, length, take, slice_index_or, slice_set, arith, Bool, true, Option, Some, None, List, [], ◌∷◌, ◌++◌, refl, append-nil, sym, ap, ap₂, subst, ◌∙◌}
+use Rattle.std.proofs.lemmas.List.{take_all, take_more, take_more_set, length-set}
 use Rattle.std.specs.Option.{option_map}
 use Rattle.cm_tree.specs.declared.tree.Block.{Block}
 use Rattle.cm_tree.specs.declared.raw_blocks.RawBlock.{RawBlock}
 use Rattle.cm_tree.specs.RawBlocks.{Raw, block_in, blocks_in, ArePlaced, Grows}
-use Rattle.cm_block.specs.Level.{Level, OpenList, block_closes}
+use Rattle.cm_tree.specs.declared.tree.ListKind.{ListKind}
+use Rattle.cm_block.specs.Level.{Level, OpenList, block_closes, item_closes, item_opens}
+use Rattle.cm_block.specs.Stack.{item_of}
 use Rattle.cm_block.specs.declared.level.Level as code_level
 use Rattle.cm_block.specs.declared.level.OpenList as code_list
 use Rattle.cm_block.specs.declared.stack.Frame as code
-use Rattle.cm_block.specs.Frames.{Container, Frame, Row}
+use Rattle.cm_block.specs.Frames.{Container, an_item, Frame, Row}
+use Rattle.cm_block.specs.steps.FrameSteps.{close_container, is_continued_by}
+use Rattle.cm_block.specs.steps.LevelSteps.{goes_on}
 use Rattle.cm_block.proofs.lemmas.FrameStartLemmas.{frame}
 use Rattle.cm_block.specs.steps.LevelViews.{list_in, level_in, IsListPlaced, IsLevelPlaced}
 use Rattle.cm_block.specs.steps.FrameViews.{container_of, frame_in, frames_in, AreFramesPlaced}
 use Rattle.cm_block.proofs.lemmas.LevelViewLemmas.{level-grows, level-placed-grows, frames-grow, frames-placed-grow, frames-append, frames-before, frames-behind}
 use Rattle.cm_block.specs.steps.FrontViews.{level_behind, frames_behind, innermost}
-use Rattle.cm_block.proofs.lemmas.FrontLemmas.{last-taken, inner-pushed, inner-does, inner-closes, inner-list}
+use Rattle.cm_block.proofs.lemmas.FrontLemmas.{last-taken, frames-push, inner-pushed, inner-does, inner-closes, inner-item-closes, inner-list, item-opens-behind, item-closes, next-opens}
 use Rattle.cm_block.proofs.lemmas.Matching.{frames_last}
 
 module _ (front : List Block) (a b : Raw) (frames before : List code.Frame) (frame : code.Frame) (level : code_level.Level) (taken : frames ≡ before ++ frame ∷ []) (outside : level ≡ frame.level)
@@ -73,6 +78,52 @@ module _ (front : List Block) (a b : Raw) (frames : List code.Frame) (level : co
 pub one-more-frame : (raw : Raw) (before after : List code.Frame) (last : code.Frame) → after ≡ before ++ last ∷ []
     → AreFramesPlaced raw before → IsLevelPlaced raw last.level → AreFramesPlaced raw after
 one-more-frame raw before after last is placed outside = subst (AreFramesPlaced raw) (sym is) (frames-append raw before (last ∷ []) placed (outside, tt))
+
+-- the last of these frames, and another in its place
+module _ (frames : List code.Frame) (n : ℕ) (last : code.Frame) (long : n ≡ length frames) (some : 0 < n) where
+  pub last-is : last ≡ slice_index_or frames (n - 1) last → frames ≡ take (n - 1) frames ++ last ∷ []
+  last-is is =
+      let all : n ≡ n - 1 + 1 = omega (arith, some) in
+      sym (take_all n frames (omega (arith, long))) ∙ ap (λ k. take k frames) all ∙ take_more frames (n - 1) last (omega (arith, long, some))
+      ∙ ap (λ f. take (n - 1) frames ++ f ∷ []) (sym is)
+
+  pub last-set : slice_set frames (n - 1) last ≡ take (n - 1) frames ++ last ∷ []
+  last-set =
+      let all : n ≡ n - 1 + 1 = omega (arith, some) in
+      let after = slice_set frames (n - 1) last in
+      sym (take_all n after (omega (arith, length-set frames (n - 1) last, long))) ∙ ap (λ k. take k after) all ∙ take_more_set frames (n - 1) last (omega (arith, long, some))
+
+-- another item is in the place of the last
+module _ (front : List Block) (a b : Raw) (frames before after : List code.Frame) (old next : code.Frame) (taken : frames ≡ before ++ old ∷ []) (replaced : after ≡ before ++ next ∷ [])
+    (placed : AreFramesPlaced a frames) (grows : Grows a b) where
+  pub next-placed : IsLevelPlaced b next.level → AreFramesPlaced b after
+  next-placed stands = one-more-frame b before after next replaced (taken-placed front a b frames before old old.level taken refl placed grows).0 stands
+
+  pub inside-next : (inner : Level) → innermost front (frames_in b after) inner ≡ inner
+  inside-next inner = ap (λ fs. innermost front fs inner) (ap (frames_in b) replaced ∙ frames_last b before next) ∙ inner-pushed front (frames_in b before) (frame_in b next) inner
+
+  pub next-is : (kind : ListKind) (column : ℕ) (inside : Level) → is_continued_by kind (container_of old.container) (level_in a old.level) ≡ true
+      → level_in b next.level ≡ goes_on (item_closes (level_in a old.level) (item_of inside)) → container_of next.container ≡ an_item kind column
+      → (now outer : List Frame) (last : Frame) → frames_behind front (frames_in a frames) ≡ now → now ≡ outer ++ last ∷ []
+      → frames_behind front (frames_in b after) ≡ outer ++ frame (item_opens (close_container last.container last.level inside) kind) (an_item kind column) ∷ []
+  next-is kind column inside continued level_is container_is now outer last is all =
+      let same = taken-is front a b frames before old old.level taken refl placed grows now outer last is all in
+      let grown = level-grows a b old.level grows (apart front a b frames before old old.level taken refl placed grows).1 in
+      let still = frames_in b before in
+      let item = item_of inside in
+      ap (λ fs. frames_behind front (frames_in b fs)) replaced
+      ∙ ap (frames_behind front) (frames_last b before next)
+      ∙ frames-push front still (level_in b next.level) (container_of next.container)
+      ∙ ap₂ (λ fs f. fs ++ f ∷ []) same.0
+      (ap₂ frame
+      (ap (innermost front still) (level_is ∙ next-opens kind (container_of old.container) (level_in a old.level) item continued ∙ ap (λ v. item_opens (item_closes v item) kind) (sym grown))
+      ∙ inner-does front (λ v. item_opens v kind) (item-opens-behind front kind) still (item_closes (level_in b old.level) item)
+      ∙ ap (λ v. item_opens v kind)
+      (inner-item-closes front item still (level_in b old.level)
+      ∙ ap (λ v. item_closes v item) same.1.0
+      ∙ item-closes kind (container_of old.container) (level_in a old.level) last.level inside continued
+      ∙ ap (λ c. close_container c last.level inside) same.1.1))
+      container_is)
 
 -- ---- all that is there becomes a chunk
 

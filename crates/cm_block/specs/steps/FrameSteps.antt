@@ -1,5 +1,5 @@
 -- Steps of the code over the open containers in a row.
-use Rattle.std.specs.Prelude.{◌≡◌, ℕ, suc, ◌+◌, Bool, true, false, ◌&&◌, List, [], ◌∷◌, drop, Option, Some, None}
+use Rattle.std.specs.Prelude.{◌≡◌, ℕ, suc, ◌+◌, Bool, true, false, ◌&&◌, List, [], ◌∷◌, take, drop, Option, Some, None}
 use Rattle.cm_text.specs.Rules.{Rules}
 use Rattle.cm_text.specs.Lines.{LineView}
 use Rattle.cm_tree.specs.declared.tree.Block.TheVariants.{Quote}
@@ -7,7 +7,9 @@ use Rattle.cm_scan.specs.blocks.Starts.{Continuation, continuation_if_lazy, cont
 use Rattle.cm_scan.specs.laws.PartLaws.{goes_inward}
 use Rattle.cm_block.specs.Level.{Level, closed_blocks, block_closes, item_closes}
 use Rattle.cm_block.specs.Stack.{Stack, item_of, stack}
-use Rattle.cm_block.specs.Frames.{a_quote, an_item, Container, Frame, is_last, opened}
+use Rattle.cm_tree.specs.declared.tree.ListKind.{ListKind}
+use Rattle.cm_block.specs.Frames.{a_quote, an_item, Container, Frame, Row, is_last, opened}
+use Rattle.cm_block.specs.steps.LevelSteps.{has_list_of}
 
 abbrev pub continuation_in : Rules → Container → (bare : Bool) → LineView → Continuation
 continuation_in rules a_quote bare line = continuation_in_quote rules line
@@ -52,6 +54,15 @@ close_container (an_item kind column) outside inside = item_closes outside (item
 unfoldable pub close_frames : List Frame → Level → Level
 close_frames [] level = level
 close_frames (f ∷ fs) level = close_container f.container f.level (close_frames fs level)
+
+-- the row once the containers after this number are closed
+abbrev pub closed_to : ℕ → Row → Row
+closed_to depth row = record { frames = take depth row.frames; bare = row.bare; level = close_frames (drop depth row.frames) row.level }
+
+-- the container is an item in this level, and one of this kind continues its list
+abbrev pub is_continued_by : ListKind → Container → Level → Bool
+is_continued_by kind a_quote level = false
+is_continued_by kind (an_item k column) level = has_list_of level kind
 
 -- what a stack in the innermost of these containers is to the document
 unfoldable pub within : List Frame → Stack → Stack

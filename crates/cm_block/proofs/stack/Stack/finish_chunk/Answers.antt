@@ -10,21 +10,21 @@ use Rattle.cm_block.specs.steps.FrontViews.{frames_behind}
 use Rattle.cm_block.proofs.lemmas.RowLemmas.{no-frames, no-list, none-placed, finished}
 use Rattle.cm_block.proofs.stack.Stack.finish_chunk.Goals as goal
 
-no-frame : (c : goal.After-push) → c.self.inside.frames ≡ []
-no-frame c = no-frames c.self.inside.raw c.self.inside.chunks c.self.inside.frames (ap (λ (r : Row). r.frames) c.self.view_is ∙ c.is_closed.ensures.frames c.if-not-is_closed.false)
+no-frame : (c : goal.After-push) → c.self.inside.frames.items ≡ []
+no-frame c = no-frames c.self.inside.raw c.self.inside.chunks c.self.inside.frames.items (ap (λ (r : Row). r.frames) c.self.view_is ∙ c.is_closed.ensures.frames c.if-not-is_closed.false)
 
 none-open : (c : goal.After-push) → c.self.inside.level.open_list ≡ None
 none-open c =
-    no-list c.self.inside.raw c.self.inside.chunks c.self.inside.frames c.self.inside.level (ap (λ (r : Row). r.level.open_list) c.self.view_is ∙ c.is_closed.ensures.list c.if-not-is_closed.false)
+    no-list c.self.inside.raw c.self.inside.chunks c.self.inside.frames.items c.self.inside.level (ap (λ (r : Row). r.level.open_list) c.self.view_is ∙ c.is_closed.ensures.list c.if-not-is_closed.false)
 
 pub invariant_of-self : goal.invariant_of-self
 invariant_of-self c =
-    none-placed c.replace-raw.new.dest c.self.inside.frames (record c.self.inside.level { blocks = c.replace-blocks.new.dest }) (no-frame c) (none-open c) (rw c.replace-blocks.ensures.after c.new.ensures.items)
+    none-placed c.replace-raw.new.dest c.self.inside.frames.items (record c.self.inside.level { blocks = c.replace-blocks.new.dest }) (no-frame c) (none-open c) (rw c.replace-blocks.ensures.after c.new.ensures.items)
 
 pub returns-clause-same : goal.returns-clause-same
 returns-clause-same c = on_ok_weaker c.push.result (λ h.
     let inside = c.self.inside in
-    finished inside.raw c.replace-raw.new.dest inside.chunks c.push.new.self inside.frames inside.bare inside.level (record c.self.inside.level { blocks = c.replace-blocks.new.dest }) (no-frame c) (none-open c)
+    finished inside.raw c.replace-raw.new.dest inside.chunks c.push.new.self inside.frames.items inside.bare inside.level (record c.self.inside.level { blocks = c.replace-blocks.new.dest }) (no-frame c) (none-open c)
     refl refl refl refl
     (rw c.replace-blocks.ensures.after c.new.ensures.items)
     (h ∙ ap (λ bs. inside.chunks ++ bs) (c.new-2.ensures ∙ ap₂ (λ raw (level : Vec RawBlock Global). blocks_in raw level.items) c.replace-raw.ensures.value c.replace-blocks.ensures.value)) ∙ c.self.view_is) c.push.ensures.ok

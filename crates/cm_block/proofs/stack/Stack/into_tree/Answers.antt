@@ -13,5 +13,5 @@ returns c =
     c.in_ok-push.ensures.ok
     ∙ ap (λ bs. inside.chunks ++ bs) (c.new.ensures ∙ c.in_ok-blocks.ensures.blocks)
     ∙ sym (closed-behind inside.chunks level.blocks level.open_list)
-    ∙ ap closed_blocks (sym (none-inside inside.chunks (frames_in inside.raw inside.frames) level (ap (λ (r : Row). r.frames) c.self.view_is ∙ c.requires)))
+    ∙ ap closed_blocks (sym (none-inside inside.chunks (frames_in inside.raw inside.frames.items) level (ap (λ (r : Row). r.frames) c.self.view_is ∙ c.requires)))
     ∙ ap (λ (r : Row). closed_blocks r.level) c.self.view_is

@@ -8,6 +8,6 @@ use Rattle.cm_block.proofs.stack.Stack.is_quoted.Goals as goal
 pub returns : goal.returns
 returns c =
     c.has_quote.ensures c.self.inside.raw
-    ∙ ap (λ fs. quoted_by false (frames_in c.self.inside.raw fs)) c.as_slice.ensures
-    ∙ sym (quoted-behind c.self.inside.chunks false (frames_in c.self.inside.raw c.self.inside.frames))
+    ∙ ap (λ fs. quoted_by false (frames_in c.self.inside.raw fs)) c.as_slice.ensures.value
+    ∙ sym (quoted-behind c.self.inside.chunks false (frames_in c.self.inside.raw c.self.inside.frames.items))
     ∙ ap (λ (r : Row). quoted_by false r.frames) c.self.view_is

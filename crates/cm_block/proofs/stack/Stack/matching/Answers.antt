@@ -9,6 +9,6 @@ use Rattle.cm_block.proofs.stack.Stack.matching.Goals as goal
 pub returns-clause-line : goal.returns-clause-line
 returns-clause-line c =
     c.matching.ensures.line c.self.inside.raw
-    ∙ ap (λ fs. matching c.args.rules c.self.inside.bare c.args.open_text (frames_in c.self.inside.raw fs) (seen_view c.args.line.now.rest)) c.as_slice.ensures
-    ∙ sym (matching-behind c.self.inside.chunks c.args.rules c.self.inside.bare c.args.open_text (frames_in c.self.inside.raw c.self.inside.frames) (seen_view c.args.line.now.rest))
+    ∙ ap (λ fs. matching c.args.rules c.self.inside.bare c.args.open_text (frames_in c.self.inside.raw fs) (seen_view c.args.line.now.rest)) c.as_slice.ensures.value
+    ∙ sym (matching-behind c.self.inside.chunks c.args.rules c.self.inside.bare c.args.open_text (frames_in c.self.inside.raw c.self.inside.frames.items) (seen_view c.args.line.now.rest))
     ∙ ap (λ (r : Row). matching c.args.rules r.bare c.args.open_text r.frames (seen_view c.args.line.now.rest)) c.self.view_is

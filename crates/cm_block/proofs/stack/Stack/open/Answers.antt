@@ -6,13 +6,13 @@ use Rattle.cm_block.proofs.stack.Stack.open.Goals as goal
 
 pub invariant_of-self : goal.invariant_of-self
 invariant_of-self c = (
-  subst (AreFramesPlaced c.self.inside.raw) (sym c.in_err-push.ensures.err) c.self.invariant.0,
+  subst (AreFramesPlaced c.self.inside.raw) (sym c.in_err-push.ensures.items) c.self.invariant.0,
   subst (IsLevelPlaced c.self.inside.raw) (sym c.replace-level.ensures.after) (c.new-inside.ensures.placed c.self.inside.raw),
 )
 
 pub invariant_of-self-2 : goal.invariant_of-self-2
 invariant_of-self-2 c = (
-  one-more-frame c.self.inside.raw c.self.inside.frames c.push.new.self _ c.in_ok-push.ensures.ok c.self.invariant.0
+  one-more-frame c.self.inside.raw c.self.inside.frames.items c.push.new.self.items _ c.in_ok-push.ensures.items c.self.invariant.0
       (subst (IsLevelPlaced c.self.inside.raw) (sym c.replace-level.ensures.value) c.self.invariant.1),
   subst (IsLevelPlaced c.self.inside.raw) (sym c.replace-level.ensures.after) (c.new-inside.ensures.placed c.self.inside.raw),
 )
