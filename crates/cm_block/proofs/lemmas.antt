@@ -36,6 +36,7 @@ pub mod ParserLemmas
 pub mod EmptyLines
 pub mod Lazy
 pub mod Depths
+pub mod TextStarts
 pub mod StartLemmas
 pub mod MarkerPlaces
 pub mod PlainItems

@@ -27,8 +27,7 @@ abbrev pub LazyLine : Type 0
 LazyLine = (rules : Rules) (line : LineView) (in_a_quote : Bool) (s : Owned) (v : Level) (now : Open Level)
     → line.lazy ≡ true → is_blank line ≡ false → has_open_text now ≡ true → push_in rules in_a_quote s v now line ≡ stack v (with_text now line) s
 
--- So is a line whose content starts with an ASCII letter or a character beyond ASCII, whatever its
--- indentation.
+-- So is a line whose content begins as text, whatever its indentation.
 abbrev pub TextGoesOn : Type 0
 TextGoesOn = (rules : Rules) (line : LineView) (in_a_quote : Bool) (s : Owned) (v : Level) (now : Open Level)
     → is_text_behind 0 (content_of line) ≡ true → has_open_text now ≡ true → push_in rules in_a_quote s v now line ≡ stack v (with_text now line) s

@@ -255,6 +255,11 @@ impl<'a> CountedLine<'a> {
                 bare: false,
             };
         }
+        if begins_as_text(&view) {
+            return Begins::Leaf(LeafStart {
+                found: Start::TextLine,
+            });
+        }
         if is_blank(&view) {
             return Begins::Nothing;
         }
@@ -293,7 +298,7 @@ impl<'a> CountedLine<'a> {
     }
 
     /// What the line is to a run of text, if one look shows that: none of its lines if it is blank, and one if
-    /// it starts, without indentation, with a byte with which only text starts.
+    /// it begins as text, without indentation.
     #[inline(always)]
     pub(crate) fn look(&mut self) -> Option<LeafLine>
         ensures next { IfSome result (λ next. (by : all.Rules) (source : List ℕ) →

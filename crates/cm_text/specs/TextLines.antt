@@ -1,16 +1,16 @@
 -- Lines of text: from their first bytes they can only be text (4.8 Paragraphs), so they continue an open paragraph, whatever else
 -- is open.
-use Rattle.std.specs.Prelude.{◌≡◌, ℕ, zero, suc, ◌<◌, Bool, true, false, ◌==◌, ◌&&◌, ◌||◌, nat_le, List, [], ◌∷◌, length}
-use Rattle.std.specs.List.{flat_map}
+use Rattle.std.specs.Prelude.{◌≡◌, ℕ, zero, suc, ◌<◌, Bool, true, false, not, ◌==◌, ◌&&◌, ◌||◌, List, [], ◌∷◌, length, codes}
+use Rattle.std.specs.List.{list_any, flat_map}
 use Rattle.cm_text.specs.Bytes.{space}
 use Rattle.cm_text.specs.Characters.{within}
 use Rattle.cm_text.specs.Lines.{lines_of, with_line_feed}
 
--- an ASCII letter, or a byte of a character beyond ASCII: only a paragraph starts with one
+-- a byte that only a paragraph starts with, whatever follows: neither another block nor the underline of a heading
 abbrev pub begins_text : ℕ → Bool
-begins_text b = within 65 90 b || within 97 122 b || nat_le 128 b
+begins_text b = not (within 48 57 b || list_any (λ c. b == c) (codes "<>#`~-_*+= \t\n"))
 
--- a line that starts with an ASCII letter or a character beyond ASCII, after the given number of spaces
+-- a line that starts with such a byte, after the given number of spaces
 abbrev pub is_text_behind : ℕ → List ℕ → Bool
 is_text_behind spaces [] = false
 is_text_behind zero (b ∷ bs) = begins_text b

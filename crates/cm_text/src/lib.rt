@@ -74,7 +74,7 @@ pub use references::{Chars, reference_at};
 pub use replaced::{Replaced, push_replaced};
 pub use rules::Rules;
 pub use search::{ByteKind, leading_spaces, next_markup, next_of};
-pub use text_lines::TextLines;
+pub use text_lines::{TextLines, begins_text};
 pub use texts::text_of;
 pub use unescaping::{unescape, unescape_or_lend};
 pub use view::View;

@@ -1,8 +1,7 @@
 //! Lines of text, which continue an open paragraph, as the first byte of each shows.
 //!
-//! A line that starts, after any spaces, with an ASCII letter or a character beyond ASCII can start no block
-//! but a paragraph. So it continues the paragraph that is open, within the same quotes and items or as a lazy
-//! continuation line.
+//! Most lines of text start, after any spaces, with a byte that no other block starts with. Such a line
+//! continues the paragraph that is open, within the same quotes and items or as a lazy continuation line.
 ghost use Rattle.std.specs.Prelude.{◌≡◌, ℕ, ◌<◌, true, length, get_or, drop, [], ◌∷◌, ◌++◌};
 ghost use Rattle.cm_text.specs.TextLines.{begins_text, AreTextLines};
 ghost use Rattle.cm_text.specs.steps.FirstLine.{IsFirstLine};
@@ -11,9 +10,9 @@ ghost use Rattle.cm_text.specs.steps.TextAhead.{IsAhead};
 use crate::endings::line_len;
 use crate::search::leading_spaces;
 
-/// Consecutive lines of text, seen without a copy: each starts with an ASCII letter or with a character
-/// beyond ASCII, the first perhaps after spaces. No block but a paragraph starts like this, and such a line
-/// continues an open paragraph (CommonMark 0.31.2, 4.8).
+/// Consecutive lines of text, seen without a copy: each starts with a byte that only a paragraph starts with
+/// (`begins_text`), the first perhaps after spaces. Such a line continues an open paragraph (CommonMark
+/// 0.31.2, 4.8).
 #[derive(Clone, Copy, Debug, PartialEq, Eq)]
 pub struct TextLines<'a> {
     /// The lines, each with the line feed that ends it.
@@ -64,12 +63,31 @@ impl TextAhead {
     }
 }
 
-/// Whether a line of text may start with a byte.
+/// Whether only a paragraph starts with a byte, whatever follows: neither another block nor the underline of
+/// a heading (CommonMark 0.31.2, chapters 4 and 5). Letters and bytes of characters beyond ASCII do.
 #[inline(always)]
-fn begins_text(b: u8) -> bool
+pub fn begins_text(b: u8) -> bool
     ensures { result ≡ begins_text b }
 {
-    b.is_ascii_alphabetic() || b >= 128
+    // Mostly it is a letter, and that test takes the fewest steps.
+    b.is_ascii_alphabetic()
+        || !matches!(
+            b,
+            b'0'..=b'9'
+                | b'<'
+                | b'>'
+                | b'#'
+                | b'`'
+                | b'~'
+                | b'-'
+                | b'_'
+                | b'*'
+                | b'+'
+                | b'='
+                | b' '
+                | b'\t'
+                | b'\n'
+        )
 }
 
 /// Whether the text may start with a line of text, by its first byte. Mostly it doesn't, and no more is

@@ -7,9 +7,9 @@ use crate::lines::line_at;
 use crate::trouble::{Trouble, wrong};
 use crate::words::{Word, number};
 use cm_text::{
-    Limits, Line, LineFeed, Rules, View, cut_at, fold_label, indent, is_ascii_punct, is_followed,
-    is_punct, is_punct_by, is_space, label_number, leading_spaces, next_markup, plain_label_number,
-    reference_at, strip, unescape, unescape_or_lend,
+    Limits, Line, LineFeed, Rules, View, begins_text, cut_at, fold_label, indent, is_ascii_punct,
+    is_followed, is_punct, is_punct_by, is_space, label_number, leading_spaces, next_markup,
+    plain_label_number, reference_at, strip, unescape, unescape_or_lend,
 };
 use std::alloc::Global;
 
@@ -23,6 +23,8 @@ enum Kind {
     Punctuation,
     PunctuationBy(Rules),
     Space,
+    /// Only a paragraph starts with it.
+    TextStart,
 }
 
 /// Adds to the answer the next line of a feed, if one has ended.
@@ -115,6 +117,7 @@ fn is_of_kind(kind: &Kind, c: char) -> bool {
         Kind::Punctuation => is_punct(c),
         Kind::PunctuationBy(rules) => is_punct_by(*rules, c),
         Kind::Space => is_space(c),
+        Kind::TextStart => !c.is_ascii() || begins_text(c as u8),
     }
 }
 
@@ -197,6 +200,7 @@ fn of_one_text(answer: &mut Answer, name: &str, text: &str) -> Result<bool, Trou
         "unescape" => answer.text(unescape(alloc, text)?.as_str())?,
         "unescape_or_lend" => answer.text(unescape_or_lend(alloc, text)?.as_str())?,
         "leading_spaces" => answer.number(leading_spaces(text))?,
+        "begins_text" => characters(answer, text, &Kind::TextStart)?,
         "is_ascii_punct" => characters(answer, text, &Kind::AsciiPunctuation)?,
         "is_punct" => characters(answer, text, &Kind::Punctuation)?,
         "is_space" => characters(answer, text, &Kind::Space)?,

@@ -13,13 +13,12 @@ use Rattle.cm_scan.specs.inlines.Links.{definitions_of}
 use Rattle.cm_scan.specs.blocks.Starts.{Start, TextLine, start_of, ItemStart, starts_at_one, can_interrupt, interrupts_paragraph, underline_of}
 use Rattle.cm_text.specs.Views.{seen_view}
 use Rattle.cm_text.specs.declared.view.View.{View}
-use Rattle.cm_scan.specs.blocks.HtmlBlocks.{is_at_letter}
+use Rattle.cm_text.specs.TextLines.{is_text_behind}
 use Rattle.cm_scan.specs.blocks.Blocks.{rest_of, NextLine, GoesOn, Ends, Underlines, by_interruption, by_underline, next_line}
 use Rattle.std.specs.List.{slice_range}
 use Rattle.cm_scan.proofs.lemmas.blocks.WordsInAnyCase.{slice_from}
 use Rattle.cm_block.specs.steps.LeafSteps.{level_above, heading_level}
-use Rattle.cm_block.proofs.lemmas.StartLemmas.{at_letter, starts_lazy, letter_starts, text_shows, text_starts, text_underlines}
-use Rattle.cm_block.specs.steps.StartViews.{is_at_text}
+use Rattle.cm_block.proofs.lemmas.StartLemmas.{text_shows, text_starts, text_underlines}
 
 -- an underline
 
@@ -127,30 +126,12 @@ unfolding next_line
 next-plain rules source line b u i =
     sym (λ k. elim (b k) as (λ _. NextLine) [ true ↦ Ends | false ↦ by_underline (u k) (not (is_empty (rest_of source))) (i k) ])
 
-shows : (text : List ℕ) → is_at_letter text ≡ true → is_blank_text text ≡ false
-shows [] e = absurd (cc)
-shows (b ∷ bs) e = grind (arith, e)
-
-pub letter_shows : (view : View) → ((view.spaces == 0) && is_at_letter view.rest.now) ≡ true → is_blank (seen_view view) ≡ false
-letter_shows view letter = shows (seen_view view).text (at_letter view letter)
-
--- and starts a text
-pub letter_text : (rules : Rules) (view : View) → ((view.spaces == 0) && is_at_letter view.rest.now) ≡ true → start_of rules (seen_view view) ≡ TextLine
-letter_text rules view letter = go view.lazy refl
-  where
-    go : (lazy : Bool) → view.lazy ≡ lazy → start_of rules (seen_view view) ≡ TextLine
-    go true lazy = sym (starts_lazy rules (seen_view view) lazy)
-    go false eager = letter_starts rules view eager letter
-
-pub text_goes_on : (view : View) → ((view.spaces == 0) && is_at_text view.rest.now) ≡ true → (rules : Rules) (source : List ℕ)
+pub text_goes_on : (view : View) → ((view.spaces == 0) && is_text_behind 0 view.rest.now) ≡ true → (rules : Rules) (source : List ℕ)
     → GoesOn ≡ next_line rules source (seen_view view)
-text_goes_on view text rules source = go view.lazy refl
+text_goes_on view text rules source =
+    next-plain rules source (seen_view view) (text_shows view text) (underlines-none view.lazy refl)
+    (sym (interrupts rules TextLine (seen_view view) false (sym (text_starts view text rules)) refl))
   where
-    line : LineView
-    line = seen_view view
-
-    go : (lazy : Bool) → view.lazy ≡ lazy → GoesOn ≡ next_line rules source line
-    go true lazy = next-plain rules source line (text_shows view text) (sym (underline_lazy line lazy)) (lazy_interrupts rules line lazy)
-    go false eager =
-        next-plain rules source line (text_shows view text) (text_underlines view text eager)
-        (sym (interrupts rules TextLine line false (sym (text_starts view text rules eager)) refl))
+    underlines-none : (lazy : Bool) → view.lazy ≡ lazy → underline_of (seen_view view) ≡ None
+    underlines-none true lazy = sym (underline_lazy (seen_view view) lazy)
+    underlines-none false eager = text_underlines view text eager

@@ -1,7 +1,9 @@
 -- What a line starts, by what each scanner returns.
-use Rattle.std.proofs.Common.{◌≡◌, ℕ, length, drop, get_or, subst, ◌<◌, ◌≤◌, Bool, true, false, ◌==◌, ◌&&◌, ◌||◌, not, None, Some, List, [], ◌∷◌, ◌++◌, replicate, Option, refl, ◌∙◌, sym, ap, ap₂, arith}
+use Rattle.std.proofs.Common.{◌≡◌, ℕ, length, drop, get_or, subst, ◌<◌, ◌≤◌, Bool, true, false, ◌==◌, ◌&&◌, ◌||◌, not, None, Some, List, [], ◌∷◌, ◌++◌, replicate, Option, refl, ◌∙◌, sym, ap, arith}
 use Rattle.cm_text.specs.Lines.{LineView}
-use Rattle.cm_block.specs.steps.StartViews.{begins_break, begins_fence, begins_text, is_at_text}
+use Rattle.cm_text.specs.TextLines.{is_text_behind}
+use Rattle.cm_block.specs.steps.StartViews.{begins_break, begins_fence}
+use Rattle.cm_block.proofs.lemmas.TextStarts.{text-start, text-level, text-shows}
 use Rattle.cm_text.specs.Indentation.{indent_from, indent_of, strip_columns, after_indent}
 use Rattle.cm_text.specs.Views.{seen_view}
 use Rattle.cm_text.specs.declared.view.View.{View}
@@ -12,11 +14,11 @@ use Rattle.cm_scan.proofs.lemmas.blocks.SingleBlocks.{unindented_line}
 use Rattle.std.specs.Option.{is_some}
 use Rattle.cm_text.specs.Rules.{Rules}
 use Rattle.cm_scan.specs.Words.{is_digit, begins_with, given, ◌<|>◌, skip, front_of, run_length, trim_start, is_blank_text}
-use Rattle.cm_scan.specs.blocks.LineForms.{Heading, Fence, ItemMarker, underline, is_thematic_break, atx_heading, opening_fence, fence_of, item_marker, bullet_marker, ordered_marker, marker_behind}
-use Rattle.cm_scan.specs.blocks.HtmlBlocks.{HtmlKind, html_start, is_at_letter}
-use Rattle.cm_scan.proofs.lemmas.texts.ToldApart.{differs, none-passes}
+use Rattle.cm_scan.specs.blocks.LineForms.{Heading, Fence, ItemMarker, is_thematic_break, atx_heading, opening_fence, fence_of, item_marker, bullet_marker, ordered_marker, marker_behind}
+use Rattle.cm_scan.specs.blocks.HtmlBlocks.{HtmlKind, html_start}
+use Rattle.cm_scan.proofs.lemmas.texts.ToldApart.{differs}
 use Rattle.std.proofs.lemmas.Bool.Decides.{nat_tests}
-use Rattle.cm_scan.proofs.lemmas.blocks.QuietStarts.{starters, is_quiet, unmarked-start, no-level, no-heading, no-fence, no-html-start, no-bullet, no-number, no-break, letter-starts, letter-underlines}
+use Rattle.cm_scan.proofs.lemmas.blocks.QuietStarts.{no-heading, no-fence, no-html-start, no-bullet, no-number, no-break}
 use Rattle.std.proofs.lemmas.Bool.{and_parts, eqb-true, ne_eqb}
 use Rattle.cm_scan.specs.blocks.Starts.{Start, IndentedCode, QuoteMarker, AtxHeading, OpeningFence, HtmlStart, BreakLine, ItemStart, TextLine, seen_as, or_text, start_of_content, start_of, underline_of}
 
@@ -166,61 +168,36 @@ module _ (rules : Rules) where
   starts_near line n view lazy all near left none =
       ap (start_of_content rules) (content_left line n view all left none) ∙ starts_content _ line lazy (omega (arith, all, near))
 
--- a line that starts with a letter, without indentation
+-- a line that begins as text, without indentation
 
-pub at_letter : (view : View) → ((view.spaces == 0) && is_at_letter view.rest.now) ≡ true → is_at_letter (seen_view view).text ≡ true
-at_letter view begins =
-    let parts = and_parts (view.spaces == 0) (is_at_letter view.rest.now) begins in
-    ap (λ n. is_at_letter (replicate n 32 ++ view.rest.now)) (eqb-true view.spaces 0 parts.0) ∙ parts.1
-
-pub letter_starts : (rules : Rules) (view : View) → view.lazy ≡ false → ((view.spaces == 0) && is_at_letter view.rest.now) ≡ true → start_of rules (seen_view view) ≡ TextLine
-letter_starts rules view eager begins = letter-starts rules (seen_view view) eager (at_letter view begins)
-
-pub letter_underlines : (view : View) → view.lazy ≡ false → ((view.spaces == 0) && is_at_letter view.rest.now) ≡ true → underline_of (seen_view view) ≡ None
-letter_underlines view eager begins = letter-underlines (seen_view view) eager (at_letter view begins)
-
--- a line that starts as text, without indentation
-
-letter-begins : (text : List ℕ) → is_at_letter text ≡ true → is_at_text text ≡ true
-letter-begins [] letter = letter
-letter-begins (b ∷ bs) letter = grind (arith, nat_tests, letter)
-
-pub letter_is_text : (view : View) → ((view.spaces == 0) && is_at_letter view.rest.now) ≡ true → ((view.spaces == 0) && is_at_text view.rest.now) ≡ true
-letter_is_text view begins =
-    let parts = and_parts (view.spaces == 0) (is_at_letter view.rest.now) begins in
-    ap₂ (λ v w. v && w) parts.0 (letter-begins view.rest.now parts.1)
-
-unindented-text : (text : List ℕ) → is_at_text text ≡ true → is_unindented text ≡ true
+unindented-text : (text : List ℕ) → is_text_behind 0 text ≡ true → is_unindented text ≡ true
 unindented-text [] h = h
-unindented-text (b ∷ bs) h = rw (differs begins_text b 32 h refl, differs begins_text b 9 h refl) refl
+unindented-text (b ∷ bs) h = ap not (text-shows b h)
 
-text-start : (rules : Rules) (text : List ℕ) → is_at_text text ≡ true → start_of_content rules text ≡ TextLine
-unfolding is_quiet
-text-start rules [] h = cc
-text-start rules (b ∷ bs) h =
-    unmarked-start rules b bs (ap not (none-passes begins_text b starters h refl)) (no-number b bs (grind (arith, h)))
-
-text-level : (text : List ℕ) → is_at_text text ≡ true → underline text ≡ None
-text-level [] h = cc
-text-level (b ∷ bs) h = no-level b bs (differs begins_text b 61 h refl) (differs begins_text b 45 h refl)
-
-module _ (view : View) (begins : ((view.spaces == 0) && is_at_text view.rest.now) ≡ true) where
-  at-text : is_at_text (seen_view view).text ≡ true
+module _ (view : View) (begins : ((view.spaces == 0) && is_text_behind 0 view.rest.now) ≡ true) where
+  at-text : is_text_behind 0 (seen_view view).text ≡ true
   at-text =
-      let parts = and_parts (view.spaces == 0) (is_at_text view.rest.now) begins in
-      ap (λ n. is_at_text (replicate n 32 ++ view.rest.now)) (eqb-true view.spaces 0 parts.0) ∙ parts.1
+      let parts = and_parts (view.spaces == 0) (is_text_behind 0 view.rest.now) begins in
+      ap (λ n. is_text_behind 0 (replicate n 32 ++ view.rest.now)) (eqb-true view.spaces 0 parts.0) ∙ parts.1
 
   pub text_shows : is_blank (seen_view view) ≡ false
   text_shows = go (seen_view view).text at-text
     where
-      go : (text : List ℕ) → is_at_text text ≡ true → is_blank_text text ≡ false
+      go : (text : List ℕ) → is_text_behind 0 text ≡ true → is_blank_text text ≡ false
       go [] h = absurd (cc (h))
-      go (b ∷ bs) h = rw (differs begins_text b 32 h refl, differs begins_text b 9 h refl) refl
+      go (b ∷ bs) h = ap (λ v. v && is_blank_text bs) (text-shows b h)
 
-  pub text_starts : (rules : Rules) → view.lazy ≡ false → start_of rules (seen_view view) ≡ TextLine
-  text_starts rules eager = (unindented_line rules (seen_view view) eager (unindented-text (seen_view view).text at-text)).start ∙ text-start rules (seen_view view).text at-text
+  unindented : is_unindented (seen_view view).text ≡ true
+  unindented = unindented-text (seen_view view).text at-text
+
+  pub text_starts : (rules : Rules) → start_of rules (seen_view view) ≡ TextLine
+  text_starts rules = go view.lazy refl
+    where
+      go : (lazy : Bool) → view.lazy ≡ lazy → start_of rules (seen_view view) ≡ TextLine
+      go true lazy = sym (starts_lazy rules (seen_view view) lazy)
+      go false eager = (unindented_line rules (seen_view view) eager unindented).start ∙ text-start rules (seen_view view).text at-text
 
   pub text_underlines : view.lazy ≡ false → underline_of (seen_view view) ≡ None
   text_underlines eager =
-      (unindented_line (record { older = false; strike = false; raw_html = true; any_address = true }) (seen_view view) eager (unindented-text (seen_view view).text at-text)).level
+      (unindented_line (record { older = false; strike = false; raw_html = true; any_address = true }) (seen_view view) eager unindented).level
       ∙ text-level (seen_view view).text at-text

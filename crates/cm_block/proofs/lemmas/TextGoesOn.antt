@@ -1,44 +1,24 @@
 -- A line of text continues the open run of text, through every level.
 use Rattle.std.proofs.Common.{◌≡◌, ℕ, Bool, true, false, ◌&&◌, not, List, [], ◌∷◌, ◌++◌, refl, ◌∙◌, sym, ap, ap₂, subst, arith, Option, Some, None}
 use Rattle.std.specs.Prelude.{nat_le}
-use Rattle.std.proofs.lemmas.Bool.Decides.{nat_tests}
 use Rattle.cm_text.specs.Rules.{Rules}
 use Rattle.cm_text.specs.Lines.{LineView}
 use Rattle.cm_text.specs.Indentation.{indent_of, strip_columns}
-use Rattle.cm_text.specs.TextLines.{begins_text, is_text_behind}
+use Rattle.cm_text.specs.TextLines.{is_text_behind}
 use Rattle.cm_text.proofs.lemmas.StripLemmas.{strip_takes_columns}
-use Rattle.cm_scan.specs.Words.{is_digit, is_space_or_tab, is_blank_text, trim_start, skip}
+use Rattle.cm_scan.specs.Words.{is_space_or_tab, is_blank_text, trim_start, skip}
 use Rattle.cm_scan.specs.blocks.Lines.{is_blank, content_of, as_lazy}
-use Rattle.cm_scan.specs.blocks.LineForms.{underline}
-use Rattle.cm_scan.specs.blocks.Starts.{Start, TextLine, start_of_content, start_of, start_by, may_be_lazy, can_interrupt, interrupts_paragraph, underline_of, underline_if, Continuation, StaysIfOpen, continuation_if_lazy, quote_continuation, continuation_in_quote, item_continuation, continuation_in_item}
+use Rattle.cm_scan.specs.blocks.Starts.{Start, start_of_content, start_of, start_by, may_be_lazy, can_interrupt, interrupts_paragraph, underline_of, underline_if, Continuation, StaysIfOpen, continuation_if_lazy, quote_continuation, continuation_in_quote, item_continuation, continuation_in_item}
 use Rattle.cm_scan.specs.blocks.Blocks.{add_text, GoesOn, next_line}
 use Rattle.cm_scan.specs.laws.PartLaws.{goes_inward}
-use Rattle.cm_scan.proofs.lemmas.texts.ToldApart.{differs, none-passes}
-use Rattle.cm_scan.proofs.lemmas.blocks.QuietStarts.{starters, is_quiet, unmarked-start, no-number, no-level}
 use Rattle.cm_block.specs.OpenLeaf.{no_leaf, open_text, open_code, open_fence, open_html, line_of_text, line_of_leaf}
 use Rattle.cm_block.specs.Machine.{Open, in_leaf, in_quote, in_item, has_open_text}
 use Rattle.cm_block.specs.Level.{Level}
 use Rattle.cm_block.specs.Stack.{Owned, Stack, stack, push_after, push_to_leaf, push_in}
 use Rattle.cm_block.specs.Lazy.{with_text, TextGoesOn}
+use Rattle.cm_block.proofs.lemmas.TextStarts.{text-start, text-level}
 use Rattle.cm_block.proofs.lemmas.StartLemmas.{content-after}
 use Rattle.cm_block.proofs.lemmas.Lazy.{lazy_line}
-
--- such a byte starts no other block, and no underline
-
-quiet : (b : ℕ) → begins_text b ≡ true → is_quiet b ≡ true
-unfolding is_quiet
-quiet b h = ap not (none-passes begins_text b starters h refl)
-
-no-digit : (b : ℕ) → begins_text b ≡ true → is_digit b ≡ false
-no-digit b h = grind (arith, nat_tests, h)
-
-text-start : (rules : Rules) (text : List ℕ) → is_text_behind 0 text ≡ true → start_of_content rules text ≡ TextLine
-text-start rules [] h = absurd (cc (h))
-text-start rules (b ∷ bs) h = unmarked-start rules b bs (quiet b h) (no-number b bs (no-digit b h))
-
-text-level : (text : List ℕ) → is_text_behind 0 text ≡ true → underline text ≡ None
-text-level [] h = absurd (cc (h))
-text-level (b ∷ bs) h = no-level b bs (differs begins_text b 61 h refl) (differs begins_text b 45 h refl)
 
 -- a line whose content starts like this isn't blank
 shows : (text : List ℕ) → is_text_behind 0 (trim_start text) ≡ true → is_blank_text text ≡ false

@@ -5,12 +5,12 @@ use Rattle.std.proofs.lemmas.Bool.{and_parts, eqb-true}
 use Rattle.std.proofs.lemmas.List.{append_cancel_right}
 use Rattle.cm_text.specs.LineText.{is_line}
 use Rattle.cm_text.specs.Lines.{LineView, lines_of, plain_line, plain_lines_of, with_line_feed}
-use Rattle.cm_text.specs.TextLines.{begins_text, is_text_behind, are_text, AreTextLines}
+use Rattle.cm_text.specs.TextLines.{is_text_behind, are_text, AreTextLines}
 use Rattle.cm_text.proofs.lemmas.TextLineLemmas.{all_lines, begins_as_text}
 use Rattle.cm_scan.specs.Words.{is_space_or_tab, trim_start, skip}
 use Rattle.cm_scan.specs.blocks.Lines.{content_of}
 use Rattle.cm_scan.specs.blocks.Blocks.{line_feeds, add_text}
-use Rattle.cm_scan.proofs.lemmas.texts.ToldApart.{differs}
+use Rattle.cm_block.proofs.lemmas.TextStarts.{text-shows}
 use Rattle.cm_block.specs.steps.TextRuns.{add_lines, with_line}
 use Rattle.cm_block.proofs.lemmas.FeedLemmas.{feeds_append, feeds_of_line, feeds_ended}
 
@@ -19,8 +19,7 @@ pub content_behind : (spaces : ℕ) (line : List ℕ) → is_text_behind spaces 
 unfolding skip
 content_behind spaces [] h = absurd (cc (h))
 content_behind zero (b ∷ bs) h =
-    let other : is_space_or_tab b ≡ false = rw (differs begins_text b 32 h refl, differs begins_text b 9 h refl) refl in
-    ap (λ v. elim v as (λ _. List ℕ) [ true ↦ trim_start bs | false ↦ b ∷ bs ]) other
+    ap (λ v. elim v as (λ _. List ℕ) [ true ↦ trim_start bs | false ↦ b ∷ bs ]) (text-shows b h)
 content_behind (suc n) (b ∷ bs) h =
     let parts = and_parts (b == 32) (is_text_behind n bs) h in
     let space : is_space_or_tab b ≡ true = ap is_space_or_tab (eqb-true b 32 parts.0) in

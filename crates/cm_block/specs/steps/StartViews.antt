@@ -1,6 +1,5 @@
 -- What a line starts, as the code has it.
-use Rattle.std.specs.Prelude.{ℕ, ◌==◌, ◌||◌, Bool, false, not, List, [], ◌∷◌}
-use Rattle.cm_text.specs.Characters.{within}
+use Rattle.std.specs.Prelude.{ℕ, ◌==◌, ◌||◌, Bool}
 use Rattle.cm_scan.specs.blocks.HtmlKinds.{kind_of}
 use Rattle.cm_scan.specs.blocks.Starts as starts
 use Rattle.cm_block.specs.declared.counted_line.starts.Start.{Start}
@@ -22,12 +21,3 @@ begins_break b = b == 45 || b == 95 || b == 42 || b == 32 || b == 9
 
 abbrev pub begins_fence : ℕ → Bool
 begins_fence b = b == 96 || b == 126
-
--- no block but a paragraph starts with this byte, and no underline
-abbrev pub begins_text : ℕ → Bool
-begins_text b =
-    not (b == 62 || b == 35 || b == 96 || b == 126 || b == 60 || b == 45 || b == 95 || b == 42 || b == 43 || b == 61 || within 48 57 b || b == 32 || b == 9 || b == 10)
-
-abbrev pub is_at_text : List ℕ → Bool
-is_at_text [] = false
-is_at_text (b ∷ bs) = begins_text b

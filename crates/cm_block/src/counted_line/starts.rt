@@ -1,19 +1,19 @@
 //! What a line starts: a quote, an item, or a leaf block (CommonMark 0.31.2, chapters 4 and 5).
 ghost use Rattle.std.specs.Prelude.{◌≡◌, ◌==◌, ◌&&◌, false, true};
-ghost use Rattle.cm_block.specs.Prelude.{is_line, seen_view, is_at_letter, content_of, given};
+ghost use Rattle.cm_text.specs.TextLines.{is_text_behind};
+ghost use Rattle.cm_block.specs.Prelude.{is_line, seen_view, content_of, given};
 ghost use Rattle.cm_block.specs.Prelude.{◌<|>◌, is_thematic_break, atx_heading, opening_fence};
 ghost use Rattle.cm_block.specs.Prelude.{item_marker, html_start, HtmlStart, BreakLine};
 ghost use Rattle.cm_block.specs.Prelude.{ItemStart, seen_as, or_text, start_of_content, start_of};
 ghost use Rattle.cm_scan.specs.blocks.Starts as forms;
 ghost use Rattle.cm_block.specs.steps.ContinuationViews.{begins_plain};
-ghost use Rattle.cm_block.specs.steps.StartViews.{seen, begins_break, begins_fence, begins_text};
-ghost use Rattle.cm_block.specs.steps.StartViews.{is_at_text};
+ghost use Rattle.cm_block.specs.steps.StartViews.{seen, begins_break, begins_fence};
 
 use cm_scan::{
     AtxHeading, HtmlKind, ItemMarker, OpeningFence, atx, fence, html_start_by, item_marker,
     thematic,
 };
-use cm_text::{Rules, View};
+use cm_text::{Rules, View, begins_text};
 
 /// What a line that is neither blank nor lazy starts (chapters 4 and 5).
 #[derive(Clone, Copy, Debug)]
@@ -28,11 +28,11 @@ pub(crate) enum Start<'a> {
     TextLine,
 }
 
-/// Whether a line starts with an ASCII letter, without indentation. It is text then, and all of it is its
-/// content.
+/// Whether a line starts with an ASCII letter, without indentation, as most lines of text do. Then it begins
+/// as text, and all of it is its content.
 #[inline(always)]
 pub(crate) fn begins_with_letter(line: &View<'_>) -> bool
-    ensures { result ≡ ((line.now.spaces == 0) && is_at_letter line.now.rest.now) }
+    ensures { result ≡ true → ((line.now.spaces == 0) && is_text_behind 0 line.now.rest.now) ≡ true }
 {
     match line.rest.as_bytes() {
         [b, ..] => line.spaces == 0 && b.is_ascii_alphabetic(),
@@ -40,24 +40,10 @@ pub(crate) fn begins_with_letter(line: &View<'_>) -> bool
     }
 }
 
-/// Whether only text starts with a byte, whatever follows.
-#[inline(always)]
-fn begins_text(b: u8) -> bool
-    ensures { result ≡ begins_text b }
-{
-    !matches!(
-        b,
-        b'>' | b'#' | b'`' | b'~' | b'<' | b'-' | b'_' | b'*' | b'+' | b'=' | b'0'..=b'9'
-            | b' '
-            | b'\t'
-            | b'\n'
-    )
-}
-
-/// Whether a line starts, without indentation, with a byte with which only text starts.
+/// Whether a line begins as text, without indentation. It is text then, and underlines nothing.
 #[inline(always)]
 pub(crate) fn begins_as_text(line: &View<'_>) -> bool
-    ensures { result ≡ ((line.now.spaces == 0) && is_at_text line.now.rest.now) }
+    ensures { result ≡ ((line.now.spaces == 0) && is_text_behind 0 line.now.rest.now) }
 {
     match line.rest.as_bytes() {
         [b, ..] => line.spaces == 0 && begins_text(*b),

@@ -1,16 +1,12 @@
 -- A first byte with which nothing but text starts.
-use Rattle.std.proofs.Common.{◌≡◌, ℕ, suc, ◌==◌, not, Bool, true, false, List, [], ◌∷◌, None, refl, ap, ◌∙◌, codes, arith}
+use Rattle.std.proofs.Common.{◌≡◌, ℕ, suc, ◌==◌, not, Bool, true, false, List, [], ◌∷◌, None, refl, ap, ◌∙◌, codes}
 use Rattle.std.specs.List.{list_any}
-use Rattle.std.proofs.lemmas.Bool.Decides.{nat_tests}
 use Rattle.cm_text.specs.Rules.{Rules}
-use Rattle.cm_text.specs.Lines.{LineView}
-use Rattle.cm_scan.specs.Words.{is_letter, is_digit, is_space_or_tab, trim_start, skip, front_of, run_length}
+use Rattle.cm_scan.specs.Words.{is_digit, skip, front_of, run_length}
 use Rattle.cm_scan.specs.blocks.LineForms.{is_thematic_break, atx_heading, underline, opening_fence, fence_of, item_marker, bullet_marker, ordered_marker, marker_behind}
-use Rattle.cm_scan.specs.blocks.HtmlBlocks.{html_start, is_at_letter}
-use Rattle.cm_scan.specs.blocks.Starts.{TextLine, start_of_content, start_of, underline_of}
-use Rattle.cm_scan.specs.laws.BlockLaws.{is_unindented}
-use Rattle.cm_scan.proofs.lemmas.blocks.SingleBlocks.{unindented_line}
-use Rattle.cm_scan.proofs.lemmas.texts.ToldApart.{differs, none-passes}
+use Rattle.cm_scan.specs.blocks.HtmlBlocks.{html_start}
+use Rattle.cm_scan.specs.blocks.Starts.{TextLine, start_of_content}
+use Rattle.cm_scan.proofs.lemmas.texts.ToldApart.{differs}
 
 -- the bytes with which a block other than text, or an underline, may start, but for digits; blanks, and the end of a line
 abbrev pub starters : List ℕ
@@ -73,40 +69,3 @@ unmarked-start rules b bs q none =
 pub no-level : (b : ℕ) (bs : List ℕ) → (b == 61) ≡ false → (b == 45) ≡ false → underline (b ∷ bs) ≡ None
 unfolding underline
 no-level b bs e f = rw (no-run 61 b bs e, no-run 45 b bs f) refl
-
--- a letter is such a byte
-letter-quiet : (b : ℕ) → is_letter b ≡ true → is_quiet b ≡ true
-unfolding is_quiet
-letter-quiet b letter = ap not (none-passes is_letter b starters letter refl)
-
-letter-no-digit : (b : ℕ) → is_letter b ≡ true → is_digit b ≡ false
-letter-no-digit b letter = grind (arith, nat_tests, letter)
-
-letter-start : (rules : Rules) (text : List ℕ) → is_at_letter text ≡ true → start_of_content rules text ≡ TextLine
-letter-start rules [] letter = cc
-letter-start rules (b ∷ bs) letter = unmarked-start rules b bs (letter-quiet b letter) (no-number b bs (letter-no-digit b letter))
-
-letter-unindented : (text : List ℕ) → is_at_letter text ≡ true → is_unindented text ≡ true
-letter-unindented [] letter = cc
-letter-unindented (b ∷ bs) letter = rw (differs is_letter b 32 letter refl, differs is_letter b 9 letter refl) refl
-
-letter-no-level : (text : List ℕ) → is_at_letter text ≡ true → underline text ≡ None
-letter-no-level [] letter = cc
-letter-no-level (b ∷ bs) letter = no-level b bs (differs is_letter b 61 letter refl) (differs is_letter b 45 letter refl)
-
--- a line that starts with one is text, and underlines nothing
-pub letter-starts : (rules : Rules) (line : LineView) → line.lazy ≡ false → is_at_letter line.text ≡ true → start_of rules line ≡ TextLine
-letter-starts rules line eager letter =
-    (unindented_line rules line eager (letter-unindented line.text letter)).start ∙ letter-start rules line.text letter
-
-pub letter-underlines : (line : LineView) → line.lazy ≡ false → is_at_letter line.text ≡ true → underline_of line ≡ None
-letter-underlines line eager letter =
-    (unindented_line (record { older = false; strike = false; raw_html = true; any_address = true }) line eager (letter-unindented line.text letter)).level ∙ letter-no-level line.text letter
-
--- and all of it is its content
-pub letter-content : (text : List ℕ) → is_at_letter text ≡ true → trim_start text ≡ text
-unfolding skip
-letter-content [] letter = cc
-letter-content (b ∷ bs) letter =
-    let other : is_space_or_tab b ≡ false = rw (differs is_letter b 32 letter refl, differs is_letter b 9 letter refl) refl in
-    ap (λ v. elim v as (λ _. List ℕ) [ true ↦ skip is_space_or_tab bs | false ↦ b ∷ bs ]) other

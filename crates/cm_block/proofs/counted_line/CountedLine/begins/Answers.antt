@@ -11,7 +11,7 @@ use Rattle.std.proofs.lemmas.Bool.{eqb-true}
 use Rattle.std.proofs.lemmas.List.{nil_from_length}
 use Rattle.cm_scan.specs.Words.{is_blank_text}
 use Rattle.cm_block.proofs.lemmas.ContinuationLemmas.{blank_spaces}
-use Rattle.cm_block.proofs.lemmas.NextLineLemmas.{letter_shows, letter_text}
+use Rattle.cm_block.proofs.lemmas.StartLemmas.{text_shows, text_starts}
 use Rattle.cm_block.proofs.lemmas.OpenedInTurn.{begins-as, item_begins, no_container}
 use Rattle.cm_block.proofs.counted_line.CountedLine.begins.Goals.{After-with_columns-view, Else-is_blank}
 use Rattle.cm_block.proofs.counted_line.CountedLine.begins.Goals as goal
@@ -28,13 +28,27 @@ pub returns-then-begins_with_letter-clause-found : goal.returns-then-begins_with
 returns-then-begins_with_letter-clause-found c =
     let view = c.read-whole.result in
     let line = ap seen_view c.read-whole.ensures.line in
-    let letter = sym c.begins_with_letter.ensures ∙ c.if-begins_with_letter.true in
-    let shows = letter_shows view letter in (
+    let shows = text_shows view (c.begins_with_letter.ensures c.if-begins_with_letter.true) in (
       ap is_blank (sym line) ∙ shows,
       (
         ap (begin_of c.args.rules) (sym line)
-            ∙ begins-as c.args.rules (seen_view view) TextLine shows (letter_text c.args.rules view letter)
+            ∙ begins-as c.args.rules (seen_view view) TextLine shows (text_starts view (c.begins_with_letter.ensures c.if-begins_with_letter.true) c.args.rules)
             ∙ ap (begin_of_start c.args.rules TextLine) line,
+        (refl, ap seen_view c.read-whole.ensures.read.same),
+      ),
+    )
+
+pub returns-then-begins_as_text-clause-found : goal.returns-then-begins_as_text-clause-found
+returns-then-begins_as_text-clause-found c =
+    let at = (goal.at.returns-then-begins_as_text-clause-found c).After-with_columns-view in
+    let view = c.with_columns-view.result in
+    let begins = sym c.begins_as_text.ensures ∙ c.if-begins_as_text.true in
+    let shows = text_shows view begins in (
+      ap is_blank (sym (same at)) ∙ shows,
+      (
+        ap (begin_of c.args.rules) (sym (same at))
+            ∙ begins-as c.args.rules (seen_view view) TextLine shows (text_starts view begins c.args.rules)
+            ∙ ap (begin_of_start c.args.rules TextLine) (same at),
         (refl, ap seen_view c.read-whole.ensures.read.same),
       ),
     )

@@ -4,12 +4,11 @@ use Rattle.cm_text.specs.Views.{seen_view}
 use Rattle.cm_scan.specs.blocks.Blocks.{next_line}
 use Rattle.cm_block.specs.steps.LeafSteps.{leaf_line}
 use Rattle.cm_block.proofs.lemmas.NextLineLemmas.{ends_blank, text_goes_on}
-use Rattle.cm_block.proofs.lemmas.StartLemmas.{letter_is_text}
 use Rattle.cm_block.proofs.counted_line.CountedLine.look.Goals as goal
 
 pub returns-then-begins_with_letter-clause-next : goal.returns-then-begins_with_letter-clause-next
 returns-then-begins_with_letter-clause-next c = λ by source.
-    ap leaf_line (text_goes_on c.read-view.result (letter_is_text c.read-view.result (sym c.begins_with_letter.ensures ∙ c.if-begins_with_letter.true)) by source)
+    ap leaf_line (text_goes_on c.read-view.result (c.begins_with_letter.ensures c.if-begins_with_letter.true) by source)
     ∙ ap (λ (v : View). leaf_line (next_line by source (seen_view v))) c.read-view.ensures.line
 
 pub returns-then-is_blank-clause-next : goal.returns-then-is_blank-clause-next

@@ -1,14 +1,14 @@
 use Rattle.std.proofs.Common.{◌∙◌, sym, arith}
 use Rattle.cm_text.specs.Views.{seen_view}
 use Rattle.cm_block.proofs.lemmas.NextLineLemmas.{underline_lazy, underline_far, underline_none, underline_some}
-use Rattle.cm_block.proofs.lemmas.StartLemmas.{letter_underlines}
+use Rattle.cm_block.proofs.lemmas.StartLemmas.{text_underlines}
 use Rattle.cm_block.proofs.counted_line.ends.underline_of.Goals as goal
 
 pub returns-then-line : goal.returns-then-line
 returns-then-line c = underline_lazy (seen_view c.args.line.now) c.if-line.true
 
 pub returns-then-begins_with_letter : goal.returns-then-begins_with_letter
-returns-then-begins_with_letter c = sym (letter_underlines c.args.line.now c.if-line.false (sym c.begins_with_letter.ensures ∙ c.if-begins_with_letter.true))
+returns-then-begins_with_letter c = sym (text_underlines c.args.line.now (c.begins_with_letter.ensures c.if-begins_with_letter.true) c.if-line.false)
 
 pub returns-then-indent-gt3 : goal.returns-then-indent-gt3
 returns-then-indent-gt3 c = underline_far (seen_view c.args.line.now) (omega (arith, c.indent.ensures, c.if-indent-gt3.true))

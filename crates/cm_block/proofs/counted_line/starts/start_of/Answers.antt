@@ -1,10 +1,10 @@
 use Rattle.std.proofs.Common.{◌∙◌, sym}
 use Rattle.cm_text.specs.Views.{seen_view}
-use Rattle.cm_block.proofs.lemmas.StartLemmas.{letter_starts, starts_lazy}
+use Rattle.cm_block.proofs.lemmas.StartLemmas.{text_starts, starts_lazy}
 use Rattle.cm_block.proofs.counted_line.starts.start_of.Goals as goal
 
 pub returns-then-line : goal.returns-then-line
 returns-then-line c = starts_lazy _ (seen_view c.args.line.now) c.if-line.true
 
 pub returns-then-begins_with_letter : goal.returns-then-begins_with_letter
-returns-then-begins_with_letter c = sym (letter_starts c.args.rules c.args.line.now c.if-line.false (sym c.begins_with_letter.ensures ∙ c.if-begins_with_letter.true))
+returns-then-begins_with_letter c = sym (text_starts c.args.line.now (c.begins_with_letter.ensures c.if-begins_with_letter.true) c.args.rules)
