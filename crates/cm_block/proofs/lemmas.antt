@@ -46,6 +46,7 @@ pub mod PutLemmas
 pub mod LineOwnerLemmas
 pub mod LeafLemmas
 pub mod FeedLemmas
+pub mod FenceLemmas
 pub mod NextLineLemmas
 pub mod OwnerRunLemmas
 pub mod FrontLemmas

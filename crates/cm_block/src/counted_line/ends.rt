@@ -1,9 +1,10 @@
 //! Whether a line ends the open leaf.
-ghost use Rattle.std.specs.Prelude.{◌≡◌, ℕ, List};
+ghost use Rattle.std.specs.Prelude.{◌≡◌, ◌≤◌, ℕ, List, true, false};
+ghost use Rattle.cm_text.specs.Indentation.{indent_from};
 ghost use Rattle.cm_block.specs.Prelude.{seen_view, underline_of, closes_fence, is_html_end, kind_of};
 
-use crate::counted_line::starts::{begins_with_letter, content};
-use cm_scan::{FenceKind, HtmlKind, fence_end, html_end, underline};
+use crate::counted_line::starts::{begins_plain, begins_with_letter, content};
+use cm_scan::{FenceKind, HtmlKind, fence_end, html_end, is_next, underline};
 use cm_text::View;
 
 /// The heading level that the line gives, as an underline, to the text above it. A lazy continuation line is
@@ -24,13 +25,38 @@ pub(crate) fn underline_of(line: &View<'_>) -> Option<u8>
     Some(level)
 }
 
+/// Whether a text starts with four spaces.
+#[inline(always)]
+fn begins_with_four_spaces(text: &str) -> bool
+    ensures { result ≡ true → (column : ℕ) → 4 ≤ indent_from column text.now }
+{
+    match text.as_bytes() {
+        [b' ', b' ', b' ', b' ', ..] => true,
+        _ => false,
+    }
+}
+
+/// Whether a line may be the closing fence, by its first bytes. Those of most lines of code show that it
+/// isn't.
+#[inline(always)]
+fn may_close_fence(kind: FenceKind, line: &View<'_>) -> bool
+    ensures { result ≡ false → (info : List ℕ) →
+        closes_fence (record { marker = kind.marker; count = kind.count; info = info })
+        (seen_view line.now) ≡ false }
+{
+    if begins_plain(line.rest) {
+        return is_next(line.rest.as_bytes(), 0, kind.marker);
+    }
+    !begins_with_four_spaces(line.rest)
+}
+
 /// Whether the line is the closing fence: it has up to 3 columns of indentation (4.5 Fenced code blocks).
 pub(crate) fn closes_fence(kind: FenceKind, line: &View<'_>) -> bool
     ensures { (info : List ℕ) → result
         ≡ closes_fence (record { marker = kind.marker; count = kind.count; info = info })
         (seen_view line.now) }
 {
-    line.indent() <= 3 && fence_end(kind, content(line), 0).is_some()
+    may_close_fence(kind, line) && line.indent() <= 3 && fence_end(kind, content(line), 0).is_some()
 }
 
 /// Whether the line meets the end condition of an HTML block of this kind.
