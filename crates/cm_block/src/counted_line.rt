@@ -297,8 +297,8 @@ impl<'a> CountedLine<'a> {
         is_blank(&self.read())
     }
 
-    /// What the line is to a run of text, if one look shows that: none of its lines if it is blank, and one if
-    /// it begins as text, without indentation.
+    /// What the line is to a run of text, if one look shows that: none of its lines if it is blank, and one
+    /// if it begins as text, without indentation.
     #[inline(always)]
     pub(crate) fn look(&mut self) -> Option<LeafLine>
         ensures next { IfSome result (λ next. (by : all.Rules) (source : List ℕ) →
