@@ -1,5 +1,5 @@
 -- A line that shows by its first bytes that it closes no fence.
-use Rattle.std.proofs.Common.{◌≡◌, ℕ, suc, ◌+◌, ◌≤◌, ◌==◌, ◌&&◌, Bool, true, false, refl, List, [], ◌∷◌, ◌++◌, length, get_or, replicate, ◌∙◌, sym, ap, ap₂, subst, arith}
+use Rattle.std.proofs.Common.{◌≡◌, ℕ, ◌+◌, ◌≤◌, ◌&&◌, Bool, true, false, refl, List, [], ◌∷◌, length, get_or, ◌∙◌, sym, ap, ap₂, subst, arith}
 use Rattle.std.specs.Prelude.{nat_le}
 use Rattle.std.proofs.lemmas.Bool.Decides.{nat_tests}
 use Rattle.cm_text.specs.Lines.{LineView}
@@ -7,7 +7,7 @@ use Rattle.cm_text.specs.Indentation.{indent_from, indent_of}
 use Rattle.cm_text.specs.Views.{seen_view}
 use Rattle.cm_text.specs.declared.view.View.{View}
 use Rattle.cm_text.proofs.lemmas.ViewLemmas.{indent_spaces}
-use Rattle.cm_scan.specs.Words.{begins_with, is_space_or_tab, is_blank_text, after_run, run_length, trim_start}
+use Rattle.cm_scan.specs.Words.{begins_with, after_run}
 use Rattle.cm_scan.specs.blocks.Lines.{content_of}
 use Rattle.cm_scan.specs.blocks.LineForms.{Fence, is_closing_fence}
 use Rattle.cm_scan.specs.blocks.Blocks.{closes_fence}

@@ -1,5 +1,5 @@
 -- A text that starts with a byte of a line of text starts no other block, and underlines nothing.
-use Rattle.std.proofs.Common.{◌≡◌, ℕ, ◌||◌, ◌==◌, not, Bool, true, false, List, [], ◌∷◌, None, refl, ◌∙◌, ap, arith}
+use Rattle.std.proofs.Common.{◌≡◌, ℕ, ◌||◌, ◌==◌, not, true, false, List, [], ◌∷◌, None, refl, ◌∙◌, ap, arith}
 use Rattle.std.proofs.lemmas.Bool.Decides.{nat_tests}
 use Rattle.cm_text.specs.Rules.{Rules}
 use Rattle.cm_text.specs.TextLines.{begins_text, is_text_behind}
