@@ -1,6 +1,6 @@
 -- Names of the crates below that the contracts of this crate use often. It defines nothing.
 pub use Rattle.cm_scan.specs.blocks.Blocks.{add_text, closes_fence, content_leaf, definition_leaves, line_count, line_feeds, next_line, rest_of}
-pub use Rattle.cm_scan.specs.blocks.HtmlBlocks.{ends_at_blank_line, html_start, is_html_end}
+pub use Rattle.cm_scan.specs.blocks.HtmlBlocks.{ends_at_blank_line, html_start, is_at_letter, is_html_end}
 pub use Rattle.cm_scan.specs.blocks.HtmlKinds.{kind_of}
 pub use Rattle.cm_scan.specs.laws.PartLaws.{goes_inward}
 pub use Rattle.cm_scan.specs.blocks.LineForms.{atx_heading, is_thematic_break, item_marker, opening_fence}

@@ -1,5 +1,5 @@
 -- A line that shows by its first bytes that it closes no fence.
-use Rattle.std.proofs.Common.{◌≡◌, ℕ, ◌+◌, ◌≤◌, ◌&&◌, Bool, true, false, refl, List, [], ◌∷◌, length, get_or, ◌∙◌, sym, ap, ap₂, subst, arith}
+use Rattle.std.proofs.Common.{◌≡◌, ℕ, ◌+◌, ◌≤◌, ◌&&◌, true, false, List, [], ◌∷◌, length, get_or, ◌∙◌, sym, ap, ap₂, subst, arith}
 use Rattle.std.specs.Prelude.{nat_le}
 use Rattle.std.proofs.lemmas.Bool.Decides.{nat_tests}
 use Rattle.cm_text.specs.Lines.{LineView}
@@ -43,8 +43,4 @@ module _ (fence : Fence) (view : View) where
   plain_closes_none plain other =
       let content : content_of line ≡ view.rest.now = sym (plain_content view.spaces view.rest.now plain) in
       let none : is_closing_fence fence (content_of line) ≡ false = ap (is_closing_fence fence) content ∙ other-first view.rest.now plain other in
-      ap (λ b. nat_le (indent_of line) 3 && b) none ∙ last (nat_le (indent_of line) 3)
-    where
-      last : (b : Bool) → (b && false) ≡ false
-      last true = refl
-      last false = refl
+      grind (arith, none)

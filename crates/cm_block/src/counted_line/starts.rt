@@ -1,7 +1,7 @@
 //! What a line starts: a quote, an item, or a leaf block (CommonMark 0.31.2, chapters 4 and 5).
 ghost use Rattle.std.specs.Prelude.{◌≡◌, ◌==◌, ◌&&◌, false, true};
 ghost use Rattle.cm_text.specs.TextLines.{is_text_behind};
-ghost use Rattle.cm_block.specs.Prelude.{is_line, seen_view, content_of, given};
+ghost use Rattle.cm_block.specs.Prelude.{is_line, seen_view, is_at_letter, content_of, given};
 ghost use Rattle.cm_block.specs.Prelude.{◌<|>◌, is_thematic_break, atx_heading, opening_fence};
 ghost use Rattle.cm_block.specs.Prelude.{item_marker, html_start, HtmlStart, BreakLine};
 ghost use Rattle.cm_block.specs.Prelude.{ItemStart, seen_as, or_text, start_of_content, start_of};
@@ -32,7 +32,9 @@ pub(crate) enum Start<'a> {
 /// as text, and all of it is its content.
 #[inline(always)]
 pub(crate) fn begins_with_letter(line: &View<'_>) -> bool
-    ensures { result ≡ true → ((line.now.spaces == 0) && is_text_behind 0 line.now.rest.now) ≡ true }
+    ensures letter { result ≡ ((line.now.spaces == 0) && is_at_letter line.now.rest.now) }
+    ensures text { result ≡ true →
+        ((line.now.spaces == 0) && is_text_behind 0 line.now.rest.now) ≡ true }
 {
     match line.rest.as_bytes() {
         [b, ..] => line.spaces == 0 && b.is_ascii_alphabetic(),

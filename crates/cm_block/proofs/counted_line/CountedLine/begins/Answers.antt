@@ -28,11 +28,11 @@ pub returns-then-begins_with_letter-clause-found : goal.returns-then-begins_with
 returns-then-begins_with_letter-clause-found c =
     let view = c.read-whole.result in
     let line = ap seen_view c.read-whole.ensures.line in
-    let shows = text_shows view (c.begins_with_letter.ensures c.if-begins_with_letter.true) in (
+    let shows = text_shows view (c.begins_with_letter.ensures.text c.if-begins_with_letter.true) in (
       ap is_blank (sym line) ∙ shows,
       (
         ap (begin_of c.args.rules) (sym line)
-            ∙ begins-as c.args.rules (seen_view view) TextLine shows (text_starts view (c.begins_with_letter.ensures c.if-begins_with_letter.true) c.args.rules)
+            ∙ begins-as c.args.rules (seen_view view) TextLine shows (text_starts view (c.begins_with_letter.ensures.text c.if-begins_with_letter.true) c.args.rules)
             ∙ ap (begin_of_start c.args.rules TextLine) line,
         (refl, ap seen_view c.read-whole.ensures.read.same),
       ),

@@ -8,7 +8,7 @@ pub returns-then-line : goal.returns-then-line
 returns-then-line c = underline_lazy (seen_view c.args.line.now) c.if-line.true
 
 pub returns-then-begins_with_letter : goal.returns-then-begins_with_letter
-returns-then-begins_with_letter c = sym (text_underlines c.args.line.now (c.begins_with_letter.ensures c.if-begins_with_letter.true) c.if-line.false)
+returns-then-begins_with_letter c = sym (text_underlines c.args.line.now (c.begins_with_letter.ensures.text c.if-begins_with_letter.true) c.if-line.false)
 
 pub returns-then-indent-gt3 : goal.returns-then-indent-gt3
 returns-then-indent-gt3 c = underline_far (seen_view c.args.line.now) (omega (arith, c.indent.ensures, c.if-indent-gt3.true))
