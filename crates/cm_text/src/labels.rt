@@ -1,12 +1,15 @@
 //! Labels of links, in the form in which they are compared.
-ghost use Rattle.std.specs.Prelude.{◌≡◌, ◌++◌, true, string_bytes, encode_utf8, IfOk, IfSome, OnOk};
+ghost use Rattle.std.specs.Prelude.{◌≡◌, ◌++◌, true, false, None, chars, string_bytes, encode_utf8};
+ghost use Rattle.std.specs.Prelude.{IfOk, IfSome, OnOk};
+ghost use Rattle.std.specs.List.{list_all};
 ghost use Rattle.cm_text.specs.Labels.{case_fold, fold_label, is_gap, settle_gaps};
 ghost use Rattle.cm_text.specs.steps.LabelNumbers.{number_of, number_step};
-ghost use Rattle.cm_text.specs.steps.LabelSteps.{is_plain_byte, is_settled, put_after};
+ghost use Rattle.cm_text.specs.steps.LabelSteps.{is_plain_byte, is_kept, is_own_fold, is_settled, put_after};
 
 use crate::device::NoMemory;
 use caseless::default_case_fold_str;
 use std::alloc::{AllocError, Global};
+use ucd_case::full_folding;
 
 /// A label as it is compared: case folded in full (Unicode), without the spaces, tabs and line endings
 /// at its ends, and with each run of them inside as one space. Two labels match where this is equal.
@@ -52,26 +55,53 @@ pub fn label_number(label: &str) -> u64
     number
 }
 
-/// The number of a label that is its own folded form because it is visible ASCII characters without capitals,
-/// and single spaces between them, as most labels are. None for any other label.
+/// The number of a label that is its own folded form, as most labels are: characters that case folding keeps,
+/// with single spaces between them. None for any other label.
 #[tactic(auto, unfolding(crate::specs::steps::LabelNumbers::number_of))]
 pub fn plain_label_number(label: &str) -> Option<u64>
     ensures number { IfSome result (λ number. number ≡ number_of label.now) }
     ensures folded { IfSome result (λ _. label.now ≡ fold_label label.now) }
+    ensures none { result ≡ None → is_own_fold label.now ≡ false }
 {
     let mut number = 0;
     let mut behind_space = true;
+    let mut ascii = true;
     for b in label.as_bytes() {
         if is_plain_byte(*b) {
             behind_space = false;
         } else if *b == b' ' && !behind_space {
             behind_space = true;
+        } else if *b >= 128 {
+            behind_space = false;
+            ascii = false;
         } else {
             return None;
         }
         number = number_step(number, *b);
     }
-    if behind_space { None } else { Some(number) }
+    if behind_space || !ascii && !keeps_case(label) {
+        return None;
+    }
+    Some(number)
+}
+
+/// Whether case folding keeps each character of a text.
+#[inline(never)]
+fn keeps_case(text: &str) -> bool
+    ensures { result ≡ list_all is_kept (chars text.now) }
+{
+    let mut kept = true;
+    for c in text.chars() {
+        kept = kept && is_kept(c);
+    }
+    kept
+}
+
+/// Whether case folding keeps a character.
+fn is_kept(c: char) -> bool
+    ensures { result ≡ is_kept c }
+{
+    full_folding(c).is_empty()
 }
 
 /// For each byte 1, where it is a visible ASCII character that is no capital, or 0.

@@ -3,6 +3,7 @@ ghost use Rattle.std.specs.Prelude.{◌≡◌, [], ◌∷◌, ◌++◌, ◌<◌,
 ghost use Rattle.std.specs.Prelude.{length, drop, slice_index, string_bytes, option_map, IfOk, OnOk};
 ghost use Rattle.std.specs.Str.{IsCharBoundary};
 ghost use Rattle.std.specs.Cow.{cow_str_bytes};
+ghost use Rattle.memchr.specs.Find.{IsFirstByte, is_byte2};
 ghost use Rattle.cm_text.specs.References.{read_of};
 ghost use Rattle.cm_text.specs.Unescaping.{escape, special, unescape};
 
@@ -12,6 +13,9 @@ use crate::references::{Chars, reference};
 use memchr::memchr2;
 use std::alloc::{AllocError, Global};
 use std::borrow::CowStr;
+
+/// How many bytes a text has at most that is searched in a loop.
+const SHORT: usize = 24;
 
 /// A text with its backslash escapes and references resolved, as those of destinations, titles and info
 /// strings are (CommonMark 0.31.2, 2.4 Backslash escapes and 2.5 Entity and numeric character references).
@@ -28,7 +32,7 @@ pub fn unescape(alloc: Global, text: &str) -> Result<String, NoMemory>
     // No escape or reference gives more bytes than it takes.
     let mut unescaped = String::with_capacity(alloc, text.len())?;
     let mut rest = text;
-    while let Some(at) = memchr2(b'\\', b'&', rest.as_bytes()) {
+    while let Some(at) = first_special(rest.as_bytes()) {
         unescaped.push_str(&rest[..at])?;
         let len = push_special(&mut unescaped, &rest[at..])?;
         rest = &rest[at + len..];
@@ -46,10 +50,27 @@ pub fn unescape(alloc: Global, text: &str) -> Result<String, NoMemory>
 pub fn unescape_or_lend(alloc: Global, text: &str) -> Result<CowStr<'_, Global>, NoMemory>
     ensures { IfOk result (λ unescaped. cow_str_bytes unescaped ≡ unescape text.now) }
 {
-    match memchr2(b'\\', b'&', text.as_bytes()) {
+    match first_special(text.as_bytes()) {
         Some(_) => Ok(CowStr::Owned(unescape(alloc, text)?)),
         None => Ok(CowStr::Borrowed(text)),
     }
+}
+
+/// The first place of a backslash or an ampersand. Most destinations and titles are so short that a loop costs
+/// less than a call of `memchr2`.
+#[inline(always)]
+fn first_special(text: &[u8]) -> Option<usize>
+    ensures { IsFirstByte (is_byte2 92 38) text.now result }
+{
+    if text.len() > SHORT {
+        return memchr2(b'\\', b'&', text);
+    }
+    for at in 0..text.len() {
+        if text[at] == b'\\' || text[at] == b'&' {
+            return Some(at);
+        }
+    }
+    None
 }
 
 /// Writes the result of the escape or the reference at the start, or the one byte there. Returns the number

@@ -1,61 +1,60 @@
--- Labels of visible ASCII characters that are no capitals, and single spaces.
-use Rattle.std.proofs.Common.{◌≡◌, ℕ, zero, suc, ◌<◌, ◌==◌, ◌&&◌, not, Bool, true, false, List, [], ◌∷◌, map, refl, ap, sym, ◌∙◌, arith}
-use Rattle.std.specs.Prelude.{IsAscii}
+-- Labels of visible characters that case folding keeps, and single spaces.
+use Rattle.std.proofs.Common.{◌≡◌, ℕ, zero, suc, ◌<◌, ◌==◌, ◌&&◌, ◌||◌, not, Bool, true, false, List, [], ◌∷◌, ◌++◌, length, map, refl, ap, sym, ◌∙◌, arith, chars}
+use Rattle.std.specs.Prelude.{IsAscii, IsUtf8, nat_le, nat_lt, flat_map, encode_utf8_all}
+use Rattle.std.specs.List.{list_all}
 use Rattle.std.specs.Char.{to_ascii_lowercase}
 use Rattle.std.proofs.lemmas.Bool.{and_parts}
 use Rattle.std.proofs.lemmas.Bool.Decides.{nat_tests}
-use Rattle.cm_text.specs.Labels.{is_gap, settle_gaps, fold_label}
-use Rattle.cm_text.specs.steps.LabelSteps.{is_plain_byte, is_plain, is_settled, settled_by}
+use Rattle.std.proofs.lemmas.Str.{encodes-chars}
+use Rattle.caseless.specs.Caseless.{default_case_fold}
+use Rattle.ucd_case.specs.CaseFolding.{full_fold, full_folding, or_itself}
+use Rattle.cm_text.specs.Labels.{is_gap, case_fold, settle_gaps, fold_label}
+use Rattle.cm_text.specs.steps.LabelSteps.{is_plain_byte, is_plain, is_kept, is_all_ascii, is_own_fold, is_settled, settled_by}
 use Rattle.cm_text.proofs.lemmas.FoldLemmas.{ascii_folds}
 use Rattle.cm_text.proofs.lemmas.LabelLemmas.{settled}
 
--- a byte of such a label is ASCII, and its own small letter
+-- a byte of an ASCII label is its own small letter
 
-record IsOwn (b : ℕ) : Type 0 where
-  ascii : b < 128
-  lower : to_ascii_lowercase b ≡ b
-
-plain_own : (b : ℕ) → is_plain_byte b ≡ true → IsOwn b
-plain_own b h = record { ascii = grind (arith, nat_tests); lower = grind (arith, nat_tests) }
-
-space_own : (b : ℕ) → (b == 32) ≡ true → IsOwn b
-space_own b h = record { ascii = grind (arith, nat_tests); lower = grind (arith, nat_tests) }
-
-plain_no_gap : (b : ℕ) → is_plain_byte b ≡ true → is_gap b ≡ false
-plain_no_gap b h = grind (arith, nat_tests)
-
-one_own : (behind : Bool) (b : ℕ) (bs : List ℕ) → is_plain behind (b ∷ bs) ≡ true → IsOwn b
-one_own behind b bs h = by_kind (is_plain_byte b) refl h
+small : (behind : Bool) (b : ℕ) (bs : List ℕ) → is_plain behind (b ∷ bs) ≡ true → b < 128 → to_ascii_lowercase b ≡ b
+small behind b bs h ascii = by_kind (is_plain_byte b || nat_le 128 b) refl h
   where
-    by_kind : (plain : Bool) → is_plain_byte b ≡ plain → elim plain [ true ↦ is_plain false bs | false ↦ b == 32 && not behind && is_plain true bs ] ≡ true → IsOwn b
-    by_kind true e k = plain_own b e
-    by_kind false e k = space_own b (and_parts (b == 32) (not behind) (and_parts (b == 32 && not behind) (is_plain true bs) k).0).0
+    by_kind : (plain : Bool) → (is_plain_byte b || nat_le 128 b) ≡ plain → elim plain [ true ↦ is_plain false bs | false ↦ b == 32 && not behind && is_plain true bs ] ≡ true → to_ascii_lowercase b ≡ b
+    by_kind true e k = grind (arith, nat_tests, e, ascii)
+    by_kind false e k = let space = (and_parts (b == 32) (not behind) (and_parts (b == 32 && not behind) (is_plain true bs) k).0).0 in grind (arith, nat_tests, space)
+
+no_gap : (b : ℕ) → (is_plain_byte b || nat_le 128 b) ≡ true → is_gap b ≡ false
+no_gap b h = grind (arith, nat_tests)
 
 -- what follows such a byte is plain
-rest_plain : (behind : Bool) (b : ℕ) (bs : List ℕ) → is_plain behind (b ∷ bs) ≡ true → is_plain (not (is_plain_byte b)) bs ≡ true
-rest_plain behind b bs h = by_kind (is_plain_byte b) h
+rest_plain : (behind : Bool) (b : ℕ) (bs : List ℕ) → is_plain behind (b ∷ bs) ≡ true → is_plain (not (is_plain_byte b || nat_le 128 b)) bs ≡ true
+rest_plain behind b bs h = by_kind (is_plain_byte b || nat_le 128 b) h
   where
     by_kind : (plain : Bool) → elim plain [ true ↦ is_plain false bs | false ↦ b == 32 && not behind && is_plain true bs ] ≡ true → is_plain (not plain) bs ≡ true
     by_kind true k = k
     by_kind false k = (and_parts (b == 32 && not behind) (is_plain true bs) k).1
 
-plain_ascii : (behind : Bool) (text : List ℕ) → is_plain behind text ≡ true → IsAscii text
-plain_ascii behind [] h zero = omega arith
-plain_ascii behind [] h (suc i) = omega arith
-plain_ascii behind (b ∷ bs) h zero = (one_own behind b bs h).ascii
-plain_ascii behind (b ∷ bs) h (suc i) = plain_ascii (not (is_plain_byte b)) bs (rest_plain behind b bs h) i
+ascii_byte : (b : ℕ) → nat_lt b 128 ≡ true → b < 128
+ascii_byte b h = grind (arith, nat_tests)
 
-plain_lower : (behind : Bool) (text : List ℕ) → is_plain behind text ≡ true → map to_ascii_lowercase text ≡ text
-plain_lower behind [] h = refl
-plain_lower behind (b ∷ bs) h = λ i. (one_own behind b bs h).lower i ∷ plain_lower (not (is_plain_byte b)) bs (rest_plain behind b bs h) i
+all_ascii : (text : List ℕ) → is_all_ascii text ≡ true → IsAscii text
+all_ascii [] h zero = omega arith
+all_ascii [] h (suc i) = omega arith
+all_ascii (b ∷ bs) h zero = ascii_byte b (and_parts (nat_lt b 128) (is_all_ascii bs) h).0
+all_ascii (b ∷ bs) h (suc i) = all_ascii bs (and_parts (nat_lt b 128) (is_all_ascii bs) h).1 i
+
+plain_lower : (behind : Bool) (text : List ℕ) → is_plain behind text ≡ true → is_all_ascii text ≡ true → map to_ascii_lowercase text ≡ text
+plain_lower behind [] h a = refl
+plain_lower behind (b ∷ bs) h a =
+    let parts = and_parts (nat_lt b 128) (is_all_ascii bs) a in
+    λ i. small behind b bs h (ascii_byte b parts.0) i ∷ plain_lower (not (is_plain_byte b || nat_le 128 b)) bs (rest_plain behind b bs h) parts.1 i
 
 plain_settled : (behind : Bool) (text : List ℕ) → is_plain behind text ≡ true → is_settled behind text ≡ true
 plain_settled behind [] h = h
-plain_settled behind (b ∷ bs) h = by_kind (is_plain_byte b) refl h (λ other. plain_settled other bs)
+plain_settled behind (b ∷ bs) h = by_kind (is_plain_byte b || nat_le 128 b) refl h (λ other. plain_settled other bs)
   where
-    by_kind : (plain : Bool) → is_plain_byte b ≡ plain → elim plain [ true ↦ is_plain false bs | false ↦ b == 32 && not behind && is_plain true bs ] ≡ true
+    by_kind : (plain : Bool) → (is_plain_byte b || nat_le 128 b) ≡ plain → elim plain [ true ↦ is_plain false bs | false ↦ b == 32 && not behind && is_plain true bs ] ≡ true
         → ((other : Bool) → is_plain other bs ≡ true → is_settled other bs ≡ true) → is_settled behind (b ∷ bs) ≡ true
-    by_kind true e k rest = ap (λ g. settled_by g behind (b == 32) (is_settled true bs) (is_settled false bs)) (plain_no_gap b e) ∙ rest false k
+    by_kind true e k rest = ap (λ g. settled_by g behind (b == 32) (is_settled true bs) (is_settled false bs)) (no_gap b e) ∙ rest false k
     by_kind false e k rest =
         let parts = and_parts (b == 32 && not behind) (is_plain true bs) k in
         let space = and_parts (b == 32) (not behind) parts.0 in
@@ -65,7 +64,37 @@ plain_settled behind (b ∷ bs) h = by_kind (is_plain_byte b) refl h (λ other. 
         spaced false s n r = grind (arith, nat_tests, s, r)
         spaced true s n r = cc
 
+-- the case of such a text
+
+no_string : (string : List ℕ) (c : ℕ) → (length string == 0) ≡ true → or_itself c string ≡ c ∷ []
+no_string [] c h = refl
+no_string (x ∷ xs) c h = absurd (grind (arith, nat_tests))
+
+kept_fold : (cs : List ℕ) → list_all is_kept cs ≡ true → default_case_fold cs ≡ cs
+unfolding default_case_fold
+kept_fold [] h = refl
+kept_fold (c ∷ cs) h =
+    let parts = and_parts (is_kept c) (list_all is_kept cs) h in
+    ap (λ string. string ++ flat_map full_fold cs) (no_string (full_folding c) c parts.0) ∙ ap (λ rest. c ∷ rest) (kept_fold cs parts.1)
+
+kept_case : (text : List ℕ) → IsUtf8 text → list_all is_kept (chars text) ≡ true → case_fold text ≡ text
+unfolding case_fold
+kept_case text utf8 h = ap encode_utf8_all (kept_fold (chars text) h) ∙ encodes-chars text utf8
+
+own_case : (text : List ℕ) → IsUtf8 text → is_plain true text ≡ true → (is_all_ascii text || list_all is_kept (chars text)) ≡ true → case_fold text ≡ text
+own_case text utf8 plain h = by_kind (is_all_ascii text) refl h
+  where
+    by_kind : (ascii : Bool) → is_all_ascii text ≡ ascii → (ascii || list_all is_kept (chars text)) ≡ true → case_fold text ≡ text
+    by_kind true e k = ascii_folds text (all_ascii text e) ∙ plain_lower true text plain e
+    by_kind false e k = kept_case text utf8 k
+
+pub with_true : (test : Bool) → (test || true) ≡ true
+with_true true = refl
+with_true false = refl
+
 -- such a label is its own folded form
-pub plain_folds : (text : List ℕ) → is_plain true text ≡ true → text ≡ fold_label text
+pub own_folds : (label : List ℕ) → IsUtf8 label → is_own_fold label ≡ true → label ≡ fold_label label
 unfolding fold_label
-plain_folds text h = sym (ap settle_gaps (ascii_folds text (plain_ascii true text h) ∙ plain_lower true text h) ∙ settled text (plain_settled true text h))
+own_folds label utf8 h =
+    let parts = and_parts (is_plain true label) (is_all_ascii label || list_all is_kept (chars label)) h in
+    sym (ap settle_gaps (own_case label utf8 parts.0 parts.1) ∙ settled label (plain_settled true label parts.0))

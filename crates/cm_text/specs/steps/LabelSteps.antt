@@ -1,6 +1,8 @@
 -- What one more character does to a label, whose gaps become single spaces from the left.
-use Rattle.std.specs.Prelude.{ℕ, Bool, true, false, not, ◌&&◌, ◌==◌, List, [], ◌∷◌}
+use Rattle.std.specs.Prelude.{ℕ, Bool, true, false, not, ◌&&◌, ◌||◌, ◌==◌, nat_le, nat_lt, List, [], ◌∷◌, length, chars}
+use Rattle.std.specs.List.{list_all}
 use Rattle.std.specs.Char.{is_ascii_graphic, is_ascii_uppercase}
+use Rattle.ucd_case.specs.CaseFolding.{full_folding}
 use Rattle.cm_text.specs.Labels.{is_gap}
 
 -- what a character adds to the text that was made, where a gap is before it or isn't
@@ -24,7 +26,18 @@ is_settled behind_gap (b ∷ bs) = settled_by (is_gap b) behind_gap (b == 32) (i
 abbrev pub is_plain_byte : ℕ → Bool
 is_plain_byte b = is_ascii_graphic b && not (is_ascii_uppercase b)
 
--- such characters, and single spaces before them; the mark says that a space is before the text, or nothing
+-- whether case folding keeps a character
+abbrev pub is_kept : ℕ → Bool
+is_kept c = length (full_folding c) == 0
+
+-- such characters or bytes beyond ASCII, and single spaces before them; the mark says that a space is before the text, or nothing
 abbrev pub is_plain : (behind_space : Bool) → List ℕ → Bool
 is_plain behind_space [] = not behind_space
-is_plain behind_space (b ∷ bs) = elim (is_plain_byte b) [ true ↦ is_plain false bs | false ↦ b == 32 && not behind_space && is_plain true bs ]
+is_plain behind_space (b ∷ bs) = elim (is_plain_byte b || nat_le 128 b) [ true ↦ is_plain false bs | false ↦ b == 32 && not behind_space && is_plain true bs ]
+
+abbrev pub is_all_ascii : List ℕ → Bool
+is_all_ascii = list_all (λ b. nat_lt b 128)
+
+-- Whether a label is told to be its own folded form. ASCII without capitals keeps its case.
+abbrev pub is_own_fold : List ℕ → Bool
+is_own_fold label = is_plain true label && (is_all_ascii label || list_all is_kept (chars label))

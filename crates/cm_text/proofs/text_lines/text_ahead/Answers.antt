@@ -1,8 +1,6 @@
-use Rattle.std.proofs.Common.{◌≡◌, ◌∙◌, ℕ, ◌+◌, ◌<◌, ◌≤◌, ◌==◌, true, List, ◌∷◌, [], length, take, drop, get_or, refl, sym, ap, subst, arith, IsCharBoundary, length-append, length-drop, get_or-drop}
-use Rattle.std.proofs.lemmas.List.{get_or-take, length-take}
-use Rattle.std.proofs.lemmas.Str.{IsCharBoundary-start, IsCharBoundary-after_ascii}
-use Rattle.cm_text.specs.Lines.{lines_of}
-use Rattle.cm_text.specs.TextLines.{begins_text, is_text_behind, are_text}
+use Rattle.std.proofs.Common.{◌≡◌, ◌∙◌, ℕ, ◌+◌, ◌<◌, length, get_or, refl, sym, ap, subst, arith}
+use Rattle.std.proofs.lemmas.Str.{IsCharBoundary-start}
+use Rattle.cm_text.specs.TextLines.{begins_text}
 use Rattle.cm_text.specs.steps.FirstLine.{IsFirstLine}
 use Rattle.cm_text.specs.steps.TextAhead.{IsAhead}
 use Rattle.cm_text.proofs.lemmas.SearchLemmas.{spaces_first}

@@ -1,4 +1,4 @@
-use Rattle.std.proofs.Common.{◌≡◌, ℕ, ◌+◌, ◌-◌, ◌≤◌, length}
+use Rattle.std.proofs.Common.{◌≡◌, ◌+◌, ◌-◌, ◌≤◌, length}
 use Rattle.cm_text.specs.steps.TextAhead.{IsAhead}
 use Rattle.cm_text.proofs.lemmas.TextLineLemmas.{next_spaces}
 use Rattle.cm_text.proofs.text_lines.text_ahead.Given as goal

@@ -1,4 +1,4 @@
-use Rattle.std.proofs.Common.{◌∙◌, ◌<◌, take, ap, sym, arith, string_bytes}
+use Rattle.std.proofs.Common.{◌∙◌, ◌<◌, take, ap, arith, string_bytes}
 use Rattle.cm_text.proofs.lemmas.CutLemmas.{slice_from_start}
 use Rattle.cm_text.proofs.lemmas.TextLineLemmas.{text_lent}
 use Rattle.cm_text.proofs.unread.Unread.text_lines.Goals as goal
