@@ -1,8 +1,8 @@
 //! The owner of each line, kept in runs: consecutive lines with the same owner are one run.
 //!
-//! So 2^28 line feeds take the memory of one run. A run takes 8 bytes, because it says whether it has one
-//! more leaf, the last one or none, and holds no number. It has fewer than 2^32 lines, and each leaf starts a
-//! run, so neither the lines, counted in a `u128`, nor the leaves, counted in a `usize`, can overflow.
+//! A run takes 4 bytes, because it says whether it has one more leaf, the last one or none, and holds no
+//! number. It has fewer than 2^16 lines, so 2^28 line feeds take 4,097 runs. Each leaf starts a run, so neither
+//! the lines, counted in a `u128`, nor the leaves, counted in a `usize`, can overflow.
 //!
 //! Runs are kept even if no caller asks for owners, so that each contract has one form. Without them an
 //! unproved program took 0.5 to 1.5 percent fewer instructions.
@@ -17,7 +17,7 @@ use std::alloc::{AllocError, Global};
 use std::marker::Model;
 
 /// The greatest number of lines of a run.
-const MOST: usize = u32::MAX as usize;
+const MOST: usize = u16::MAX as usize;
 
 /// Whose lines a run has. Leaves are counted in the order of the runs, so that no run holds a number.
 #[derive(Clone, Copy, Debug, PartialEq, Eq)]
@@ -36,7 +36,7 @@ pub(crate) enum RunOwner {
 #[derive(Clone, Copy, Debug)]
 pub(crate) struct OwnerRun {
     pub(crate) owner: RunOwner,
-    pub(crate) lines: u32,
+    pub(crate) lines: u16,
 }
 
 /// The owner of each line so far, and the number of leaves. Consecutive lines with the same owner take the
@@ -58,10 +58,10 @@ impl Model for OwnerRuns {
     ghost view = { λ o. record { owners = owners_in o.closed.items o.last; leaves = o.leaves } };
 
     ghost invariant = { λ o. (o.count ≡ length (owners_in o.closed.items o.last))
-        × (o.count ≤ length o.closed.items * 2 ^ 32 + o.last.lines)
+        × (o.count ≤ length o.closed.items * 2 ^ 16 + o.last.lines)
         × (o.leaves ≡ leaves_with (leaves_in 0 o.closed.items) o.last.owner)
         × (o.leaves ≤ length o.closed.items)
-        × (o.last.lines < 2 ^ 32) };
+        × (o.last.lines < 2 ^ 16) };
 }
 
 /// The number of leaves up to and including a run of this owner, after `leaves` leaves.
@@ -99,7 +99,7 @@ fn owner_of(leaves: usize, owner: RunOwner) -> Owner
 }
 
 /// Appends an owner `lines` times.
-fn push_run(owners: &mut Vec<Owner>, owner: Owner, lines: u32) -> Result<(), AllocError>
+fn push_run(owners: &mut Vec<Owner>, owner: Owner, lines: u16) -> Result<(), AllocError>
     ensures { OnOk result (owners.new.items ≡ owners.old.items ++ replicate lines owner) }
 {
     for _ in 0..lines {
@@ -136,7 +136,7 @@ impl OwnerRuns {
 
     /// Starts a run of `lines` lines, up to `MOST`.
     fn begin(&mut self, owner: RunOwner, lines: usize) -> Result<(), AllocError>
-        requires { lines < 2 ^ 32 }
+        requires { lines < 2 ^ 16 }
         ensures { OnOk result (self.new ≡ record {
           owners = self.old.owners ++ replicate lines (owner_of (leaves_with self.old.leaves owner) owner);
           leaves = leaves_with self.old.leaves owner;
@@ -148,7 +148,7 @@ impl OwnerRuns {
         self.leaves = leaves_with(self.leaves, owner);
         self.last = OwnerRun {
             owner,
-            lines: lines as u32,
+            lines: lines as u16,
         };
         self.count += lines as u128;
         Ok(())
@@ -182,7 +182,7 @@ impl OwnerRuns {
         // The number of runs bounds that of the lines.
         let _runs = self.closed.len();
         if owner == self.last.owner && lines <= MOST - self.last.lines as usize {
-            self.last.lines += lines as u32;
+            self.last.lines += lines as u16;
             self.count += lines as u128;
             return Ok(());
         }
