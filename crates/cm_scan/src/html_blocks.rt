@@ -69,10 +69,10 @@ fn holds_word(word: &[u8], bytes: &[u8]) -> bool
 }
 
 /// The names of the elements whose text is not markup.
-const RAW_TEXT_NAMES: [&str; 4] = ["pre", "script", "style", "textarea"];
+static RAW_TEXT_NAMES: [&str; 4] = ["pre", "script", "style", "textarea"];
 
 /// The names of start condition 6 by all rules.
-const COMMON_BLOCK_NAMES: [&str; 61] = [
+static COMMON_BLOCK_NAMES: [&str; 61] = [
     "address",
     "article",
     "aside",
@@ -160,8 +160,7 @@ fn is_among(words: &[&str], name: &[u8]) -> bool
 fn is_raw_text_name(name: &[u8]) -> bool
     ensures { result ≡ is_among raw_text_names (lower name.now) }
 {
-    let words: [&str; 4] = RAW_TEXT_NAMES;
-    is_among(words.as_slice(), name)
+    is_among(&RAW_TEXT_NAMES, name)
 }
 
 /// The name of start condition 6 that depends on the rules.
@@ -175,8 +174,7 @@ fn block_name_by(rules: Rules) -> &'static str
 fn is_common_block_name(name: &[u8]) -> bool
     ensures { result ≡ is_among common_block_names (lower name.now) }
 {
-    let words: [&str; 61] = COMMON_BLOCK_NAMES;
-    is_among(words.as_slice(), name)
+    is_among(&COMMON_BLOCK_NAMES, name)
 }
 
 /// Whether a name is one of start condition 6.
