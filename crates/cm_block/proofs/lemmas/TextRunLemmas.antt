@@ -114,8 +114,3 @@ module _ (text : List ℕ) (spaces count : ℕ) (h : AreTextLines text spaces co
   content_feeds =
       sym (feeds_ended content) ∙ ap line_feeds (sym left) ∙ spaces-feeds spaces text (begins_as_text text spaces count h) ∙ ap line_feeds h.lines
       ∙ feeds-of (lines_of text) (all_lines text) ∙ sym h.counted
-
--- one line more
-pub line_added : (source : List ℕ) (line : LineView) → with_line source ++ content_of line ≡ add_text source line
-line_added [] line = refl
-line_added (b ∷ bs) line = append_assoc (b ∷ bs) (10 ∷ []) (content_of line)

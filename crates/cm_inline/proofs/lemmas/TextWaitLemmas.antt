@@ -160,11 +160,6 @@ waits-on source targets reader old html before new next further h w e g =
 laid-last : (source : List ℕ) (targets : Targets) (reader : Reader) (place n : ℕ) → length reader.marks.items ≤ n → AreLaid false source targets reader.runs.runs.items reader.links.items place (length source) (drop n reader.marks.items) → IsUnmarked false source place (length source)
 laid-last source targets reader place n h laid = subst (AreLaid false source targets reader.runs.runs.items reader.links.items place (length source)) (drop_all n reader.marks.items h) laid
 
-pub waits-end : (source : List ℕ) (targets : Targets) (reader : Reader) (old html : List ℕ) (next : Place) → length reader.marks.items ≤ next.mark → TextWaits source targets reader old html next → IsBetween source next.from (length source)
-waits-end source targets reader old html next h w =
-    let last = laid-last source targets reader w.place next.mark h w.laid in
-    (omega (arith, w.between.0, last.between.0), w.between.1, last.between.2)
-
 pub waits-last : (source : List ℕ) (targets : Targets) (reader : Reader) (old html new : List ℕ) (next : Place) → length reader.marks.items ≤ next.mark → TextWaits source targets reader old html next → new ≡ html ++ slice_range source next.from (length source)
     → new ≡ old ++ (write_all (page [] Tags) (events_in source targets reader)).html
 waits-last source targets reader old html new next h w e =

@@ -182,7 +182,3 @@ module _ (first now : LeafWalk) (unread : Unread) (so_far : Goes first now) wher
     goes_told fault told =
         left_told first.unread.limits.inlines fault first.next now.next (leaf_depths (all_left first.unread)) (depths_in (block_read_of unread block)) (leaf_depths (all_left unread)) left
         (subst (λ limits. TellsLeaf fault limits.inlines now.next (depths_in (block_read_of unread block))) limit_is told)
-
-pub goes_none : (first now : LeafWalk) → Goes first now → all_left now.unread ≡ [] → Passes first.unread.limits.inlines first.next now.next (leaf_depths (all_left first.unread))
-goes_none first now so_far none =
-    left_none first.unread.limits.inlines first.next now.next (leaf_depths (all_left first.unread)) (leaf_depths (all_left now.unread)) (ap leaf_depths none) so_far.leaves

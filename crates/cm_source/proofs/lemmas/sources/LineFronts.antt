@@ -195,11 +195,6 @@ end-kept (b ∷ bs) e = go (trim_end bs) (end-kept bs) (b == 96) refl
     go (c ∷ cs) again true q = ap (λ v. v || holds_backtick (c ∷ cs)) q
     go (c ∷ cs) again false q = ap (λ v. v || holds_backtick (c ∷ cs)) q ∙ again (sym (ap (λ v. v || holds_backtick bs) q) ∙ e)
 
-run-counted : (n b : ℕ) (bs : List ℕ) → (b == 96) ≡ false → run_length 96 (replicate n 96 ++ b ∷ bs) ≡ n
-unfolding run_length
-run-counted zero b bs e = no-run 96 b bs e
-run-counted (suc n) b bs e = ap suc (run-counted n b bs e)
-
 run-left : (n b : ℕ) (bs : List ℕ) → (b == 96) ≡ false → after_run 96 (replicate n 96 ++ b ∷ bs) ≡ b ∷ bs
 unfolding after_run
 run-left zero b bs e = ap (λ v. elim v as (λ _. List ℕ) [ true ↦ after_run 96 bs | false ↦ b ∷ bs ]) e
