@@ -1,5 +1,5 @@
 //! Where links and images lead, and where they end (CommonMark 0.31.2, 6.3 Links).
-ghost use Rattle.std.specs.Prelude.{◌≡◌, ◌+◌, ◌-◌, ◌<◌, drop, IfOk, IfSome};
+ghost use Rattle.std.specs.Prelude.{◌≡◌, ◌+◌, ◌-◌, ◌<◌, drop, option_map, IfOk, IfSome};
 ghost use Rattle.std.specs.List.{slice_range};
 ghost use Rattle.std.specs.Str.{IsCharBoundary};
 ghost use Rattle.cm_scan.specs.inlines.Brackets.{closed, after_destination, inline_end, Defined};
@@ -7,6 +7,7 @@ ghost use Rattle.cm_scan.specs.inlines.Brackets.{target_of, target_between};
 ghost use Rattle.cm_scan.specs.inlines.Brackets.{reference_end, end_if_followed, end_at};
 ghost use Rattle.cm_text.specs.Addresses.{is_followed};
 ghost use Rattle.cm_text.specs.Unescaping.{unescape};
+ghost use Rattle.cm_inline.specs.declared.links.Target.TheVariants as targets;
 ghost use Rattle.cm_inline.specs.steps.Leaves.{defined_by};
 ghost use Rattle.cm_inline.specs.steps.Links.{ends_of, leads_to, target_by, after_brackets};
 ghost use Rattle.cm_inline.specs.steps.Links.{AreBrackets, IsPlaced};
@@ -14,7 +15,7 @@ ghost use Rattle.cm_inline.specs.steps.Standalone.{IsBetween};
 
 use crate::leaf::Leaf;
 use cm_scan::{after_gap, destination, is_blank_next, is_next, label, title};
-use cm_text::{NoMemory, Rules, is_followed, unescape_or_lend};
+use cm_text::{NoMemory, Rules, is_followed, plain_label_number, unescape_or_lend};
 
 /// The target of a link or an image: the places of its destination and its title as they are written after
 /// it, or the number of a definition.
@@ -171,10 +172,50 @@ fn reference_end(
     if let Some((full, end)) = label(leaf.source, at + 1) {
         return reference(rules, leaf, full, end);
     }
+    reference_between(rules, leaf, after, at)
+}
+
+/// The most bytes of a label whose characters needn't be counted.
+const FEW: usize = 999;
+
+/// The end of a collapsed reference or a shortcut, whose label is between the brackets. Mostly that is its own
+/// folded form, which is a label if it is short.
+fn reference_between(
+    rules: Rules,
+    leaf: Leaf<'_>,
+    after: usize,
+    at: usize,
+) -> Result<Option<LinkEnd>, NoMemory>
+    requires { AreBrackets leaf.source.now after at }
+    ensures ends { IfOk result (λ found. ends_of leaf.entry found ≡ end_if_followed rules (leads_to
+        (target_between (defined_by leaf.entry) (slice_range leaf.entry.source.now after at))
+        (after_brackets (drop (at + 1) leaf.entry.source.now)))) }
+    ensures place { IfOk result (λ found. IfSome found (λ e. IsPlaced leaf.entry e)) }
+{
+    let end = after_brackets(leaf.source, at + 1);
+    let between = &leaf.source[after..at];
+    if between.len() <= FEW {
+        if let Some(number) = plain_label_number(between) {
+            let entry = leaf.definitions.entry_by_number(rules, number, between);
+            return Ok(end_of(entry, end));
+        }
+    }
     match label_between(leaf.source, after, at) {
-        Some(between) => reference(rules, leaf, between, after_brackets(leaf.source, at + 1)),
+        Some(between) => reference(rules, leaf, between, end),
         None => Ok(None),
     }
+}
+
+/// A reference to the definition with a number that ends at a place, if there is such a definition.
+#[inline(always)]
+fn end_of(entry: Option<usize>, end: usize) -> Option<LinkEnd>
+    ensures { result ≡ option_map (λ entry. record { target = targets.Defined entry; end = end }) entry }
+{
+    let entry = entry?;
+    Some(LinkEnd {
+        target: Target::Defined { entry },
+        end,
+    })
 }
 
 /// The target of a reference by a label that ends at a place, if the label is defined and the rules follow
@@ -191,13 +232,7 @@ fn reference(
         (leads_to (target_of (defined_by leaf.entry) label.now) (drop end leaf.entry.source.now))) }
     ensures place { IfOk result (λ found. IfSome found (λ e. IsPlaced leaf.entry e)) }
 {
-    let Some(entry) = leaf.definitions.entry_by(rules, label)? else {
-        return Ok(None);
-    };
-    Ok(Some(LinkEnd {
-        target: Target::Defined { entry },
-        end,
-    }))
+    Ok(end_of(leaf.definitions.entry_by(rules, label)?, end))
 }
 
 /// The source between the brackets, if it is a link label.

@@ -4,7 +4,8 @@ ghost use Rattle.std.specs.Prelude.{IfOk, IfSome, OnOk};
 ghost use Rattle.std.specs.List.{list_all};
 ghost use Rattle.cm_text.specs.Labels.{case_fold, fold_label, is_gap, settle_gaps};
 ghost use Rattle.cm_text.specs.steps.LabelNumbers.{number_of, number_step};
-ghost use Rattle.cm_text.specs.steps.LabelSteps.{is_plain_byte, is_kept, is_own_fold, is_settled, put_after};
+ghost use Rattle.cm_text.specs.steps.LabelSteps.{is_plain_byte, is_kept, is_own_fold, is_bare};
+ghost use Rattle.cm_text.specs.steps.LabelSteps.{is_settled, put_after};
 
 use crate::device::NoMemory;
 use caseless::default_case_fold_str;
@@ -56,11 +57,12 @@ pub fn label_number(label: &str) -> u64
 }
 
 /// The number of a label that is its own folded form, as most labels are: characters that case folding keeps,
-/// with single spaces between them. None for any other label.
+/// except brackets and backslashes, with single spaces between them. None for any other label.
 #[tactic(auto, unfolding(crate::specs::steps::LabelNumbers::number_of))]
 pub fn plain_label_number(label: &str) -> Option<u64>
     ensures number { IfSome result (λ number. number ≡ number_of label.now) }
     ensures folded { IfSome result (λ _. label.now ≡ fold_label label.now) }
+    ensures bare { IfSome result (λ _. is_bare label.now ≡ true) }
     ensures none { result ≡ None → is_own_fold label.now ≡ false }
 {
     let mut number = 0;
@@ -104,18 +106,18 @@ fn is_kept(c: char) -> bool
     full_folding(c).is_empty()
 }
 
-/// For each byte 1, where it is a visible ASCII character that is no capital, or 0.
+/// For each byte 1, where it is a visible ASCII character that is no capital, bracket or backslash, or 0.
 static PLAIN: [u8; 256] = *b"\
     00000000000000000000000000000000\
     01111111111111111111111111111111\
-    10000000000000000000000000011111\
+    10000000000000000000000000000011\
     11111111111111111111111111111110\
     00000000000000000000000000000000\
     00000000000000000000000000000000\
     00000000000000000000000000000000\
     00000000000000000000000000000000";
 
-/// Whether a byte is a visible ASCII character that is no capital.
+/// Whether a byte is a visible ASCII character that is no capital, bracket or backslash.
 #[inline(always)]
 fn is_plain_byte(b: u8) -> bool
     ensures { result ≡ is_plain_byte b }

@@ -50,7 +50,7 @@ pub are-brackets : (source : List ℕ) (targets : Targets) (at : ℕ) (v : View)
 are-brackets source targets at v b bs segments r stands =
     let level = r.open_are in
     let low = laid-low v.lines source targets v.runs v.links b.end at level.late level.closed.laid in
-    record { bracket = left-bracket source b.image level.at b.end level.bracket; order = low; stands = stands; next = IsCharBoundary-after_ascii source at r.utf8 stands.within (omega (arith, stands.byte)) }
+    record { bracket = left-bracket source b.image level.at b.end level.bracket; start = level.bracket.end; order = low; stands = stands; next = IsCharBoundary-after_ascii source at r.utf8 stands.within (omega (arith, stands.byte)) }
 
 -- the numbers of the runs that wait rise
 

@@ -1,8 +1,17 @@
 -- A label between two brackets, with more text after them and without.
-use Rattle.std.proofs.Common.{◌≡◌, ◌≢◌, ℕ, ◌<◌, ◌==◌, Bool, true, false, List, [], ◌∷◌, ◌++◌, length, Option, Some, None, IfSome, refl, sym, ap, subst, ◌∙◌, arith}
+use Rattle.std.proofs.Common.{◌≡◌, ◌≢◌, ℕ, ◌<◌, ◌≤◌, ◌==◌, ◌&&◌, not, cond, Bool, true, false, List, [], ◌∷◌, ◌++◌, length, Option, Some, None, IfSome, refl, sym, ap, ap₂, subst, ◌∙◌, arith}
+use Rattle.std.specs.Prelude.{nat_le}
+use Rattle.std.specs.List.{list_all}
+use Rattle.std.proofs.lemmas.Bool.{and_parts, le-leb}
+use Rattle.std.proofs.lemmas.Bool.Decides.{nat_tests}
 use Rattle.std.proofs.lemmas.List.{length-append}
+use Rattle.std.proofs.lemmas.List.Sums.{sum_by-cons}
+use Rattle.cm_text.specs.Characters.{within, is_ascii_punct}
+use Rattle.cm_text.specs.Labels.{is_gap}
+use Rattle.cm_text.specs.steps.LabelSteps.{is_bracketing, is_bare}
+use Rattle.cm_scan.specs.spans.Tags.{is_blank_byte}
 use Rattle.cm_scan.specs.Words.{is_empty, given}
-use Rattle.cm_scan.specs.inlines.Links.{Reading, behind, keep_if, escapes_next, up_to_closing, is_label, label}
+use Rattle.cm_scan.specs.inlines.Links.{Reading, behind, keep_if, escapes_next, up_to_closing, characters, is_label, label}
 use Rattle.cm_tree.specs.Definitions.{Target}
 use Rattle.cm_scan.specs.inlines.Brackets.{Defined, target_of, target_between}
 use Rattle.cm_scan.proofs.lemmas.links.BracketedParts.{ahead}
@@ -177,3 +186,43 @@ no_label_between defined between rest o read ends = go (where_it_ends false betw
     go (nowhere h) = target-by defined between None (label-of (closing between []) None (h []))
     go (beyond h) = target-by defined between None (label-of (closing between []) (ahead (closing between []) (inside_of false [])) (h [])
         ∙ ap (λ q. keep_if is_label (ahead (closing between []) q)) nothing-inside)
+
+-- Between brackets without a bracket and a backslash
+
+bare-byte : (b : ℕ) → not (is_bracketing b) ≡ true → ((b == 93) ≡ false) × ((b == 91) ≡ false) × ((b == 92) ≡ false)
+bare-byte b h = (grind (arith, nat_tests, h), grind (arith, nat_tests, h), grind (arith, nat_tests, h))
+
+escapes-nothing : (b : ℕ) (bs : List ℕ) → (b == 92) ≡ false → escapes_next b bs ≡ false
+escapes-nothing b [] h = refl
+escapes-nothing b (c ∷ cs) h = ap (λ t. t && is_ascii_punct c) h
+
+bare_inside : (between : List ℕ) → list_all (λ b. not (is_bracketing b)) between ≡ true → inside_of false (closing between []) ≡ Some (record { text = between; rest = [] })
+bare_inside [] h = closes-here 93 [] refl
+bare_inside (b ∷ bs) h =
+    let parts = and_parts (not (is_bracketing b)) (list_all (λ c. not (is_bracketing c)) bs) h in
+    let byte = bare-byte b parts.0 in
+    goes-on b (closing bs []) byte.0 byte.1
+    ∙ ap (λ m. behind b (inside_of m (closing bs []))) (escapes-nothing b (closing bs []) byte.2)
+    ∙ ap (behind b) (bare_inside bs parts.1)
+
+fewer-characters : (text : List ℕ) → characters text ≤ length text
+fewer-characters [] = omega arith
+fewer-characters (b ∷ bs) = omega (arith, sum_by-cons (λ c. cond (not (within 128 191 c)) 1 0) b bs, fewer-characters bs, at-most-one (not (within 128 191 b)))
+  where
+    at-most-one : (kind : Bool) → cond kind 1 0 ≤ 1
+    at-most-one true = omega arith
+    at-most-one false = omega arith
+
+no_blank : (b : ℕ) → not (is_gap b) ≡ true → is_blank_byte b ≡ false
+no_blank b h = grind (arith, nat_tests, h)
+
+-- A bare text that is short is a label, and has its target.
+pub bare_between : (defined : Defined) (between : List ℕ) → is_bare between ≡ true → length between ≤ 999 → target_between defined between ≡ target_of defined between
+bare_between defined [] bare short = absurd (cc)
+bare_between defined (b ∷ bs) bare short =
+    let here : Reading = record { text = b ∷ bs; rest = [] } in
+    let parts = and_parts (not (is_gap b)) (list_all (λ c. not (is_bracketing c)) (b ∷ bs)) bare in
+    let few : nat_le (characters (b ∷ bs)) 999 ≡ true = le-leb (characters (b ∷ bs)) 999 (omega (arith, short, fewer-characters (b ∷ bs))) in
+    let filled : not (list_all is_blank_byte (b ∷ bs)) ≡ true = ap (λ t. not (t && list_all is_blank_byte bs)) (no_blank b parts.0) in
+    target-by defined (b ∷ bs) (Some here)
+    (label-of (closing (b ∷ bs) []) (Some here) (bare_inside (b ∷ bs) parts.1) ∙ ap (λ t. given t here) (ap₂ ◌&&◌ few filled))

@@ -1,12 +1,12 @@
 -- What follows the right bracket of a link or an image, by what comes next in the source.
-use Rattle.std.proofs.Common.{◌≡◌, ◌≢◌, ℕ, suc, ◌+◌, ◌<◌, ◌≤◌, ◌==◌, Bool, true, false, List, [], ◌∷◌, ◌++◌, length, drop, get_or, Option, Some, None, Result, Ok, Err, IfOk, IfSome, codes, if◌then◌else◌, refl, sym, ap, subst, ◌∙◌, arith, length-append, length-drop}
+use Rattle.std.proofs.Common.{◌≡◌, ◌≢◌, ℕ, suc, ◌+◌, ◌<◌, ◌≤◌, ◌==◌, Bool, true, false, List, [], ◌∷◌, ◌++◌, length, drop, get_or, Option, Some, None, option_map, Result, Ok, Err, IfOk, IfSome, codes, if◌then◌else◌, refl, sym, ap, subst, ◌∙◌, arith, length-append, length-drop}
 use Rattle.std.specs.List.{slice_range}
 use Rattle.std.specs.Str.{IsCharBoundary}
 use Rattle.std.proofs.lemmas.List.{drop_more}
 use Rattle.cm_text.specs.Rules.{Rules}
 use Rattle.cm_text.specs.Addresses.{is_followed}
 use Rattle.cm_text.specs.Unescaping.{unescape}
-use Rattle.cm_tree.specs.Definitions.{Target}
+use Rattle.cm_tree.specs.Definitions.{Target, target_numbered, target_if_followed}
 use Rattle.cm_scan.specs.Scanned.{IsAt}
 use Rattle.cm_scan.specs.Words.{begins_with, after_word}
 use Rattle.cm_scan.specs.spans.Tags.{is_blank_next, after_gap}
@@ -17,6 +17,7 @@ use Rattle.cm_scan.proofs.lemmas.texts.ScannerAnswers.{begins-at}
 use Rattle.cm_scan.proofs.lemmas.inlines.LeftByEachStep.{end_at-end}
 use Rattle.cm_inline.specs.declared.leaf.Leaf.{Leaf}
 use Rattle.cm_inline.specs.declared.links.LinkEnd.{LinkEnd}
+use Rattle.cm_inline.specs.declared.links.Target.TheVariants as written
 use Rattle.cm_inline.specs.steps.Reads.{Stands}
 use Rattle.cm_inline.specs.steps.Marks.{target_in}
 use Rattle.cm_inline.specs.steps.Leaves.{defined_by}
@@ -174,6 +175,32 @@ module _ (source : List ℕ) (before at : ℕ) where
       let found = label_between defined (slice_range source behind at) (drop (at + 1) source) (record { text = inside; rest = drop end source })
       (ap label (sym (between-brackets behind place within byte low stands)) ∙ sym h) (ap (λ n. length (drop n source)) same) in
       ap (target_of defined) found.0 ∙ sym found.1
+
+-- the end of a reference by the number of its definition, whose address the rules follow
+module _ (rules : Rules) (leaf : Leaf) (end : ℕ) where
+  abbrev by_number : Option ℕ → Option LinkEnd
+  by_number entry = option_map (λ number. record { target = written.Defined number; end = end }) entry
+
+  number-leads : (entry : Option ℕ) → ends_of leaf (by_number entry) ≡ leads_to (option_map (target_numbered leaf.definitions.now) entry) (drop end leaf.source.now)
+  number-leads None = refl
+  number-leads (Some number) = refl
+
+  leads-followed : (target : Option Target) (rest : List ℕ) → leads_to (target_if_followed rules target) rest ≡ end_if_followed rules (leads_to target rest)
+  leads-followed None rest = refl
+  leads-followed (Some target) rest = go (is_followed rules target.0)
+    where
+      go : (on : Bool) → leads_to (elim on as (λ _. Option Target) [ true ↦ Some target | false ↦ None ]) rest
+          ≡ elim on as (λ _. Option brackets.LinkEnd) [ true ↦ Some (brackets.link_end target rest) | false ↦ None ]
+      go true = refl
+      go false = refl
+
+  pub numbered-end : (target : Option Target) (entry : Option ℕ) → option_map (target_numbered leaf.definitions.now) entry ≡ target_if_followed rules target
+      → ends_of leaf (by_number entry) ≡ end_if_followed rules (leads_to target (drop end leaf.source.now))
+  numbered-end target entry h = number-leads entry ∙ ap (λ o. leads_to o (drop end leaf.source.now)) h ∙ leads-followed target (drop end leaf.source.now)
+
+  pub numbered-placed : (entry : Option ℕ) → IsCharBoundary leaf.source.now end → IfSome entry (λ number. number < length leaf.definitions.now) → IfSome (by_number entry) (IsPlaced leaf)
+  numbered-placed None boundary within = tt
+  numbered-placed (Some number) boundary within = (boundary, within)
 
 -- The whole
 

@@ -12,9 +12,10 @@ use Rattle.cm_inline.specs.steps.Marks.{target_in, IsTargetIn}
 use Rattle.cm_text.specs.Bytes.{left_bracket, right_bracket}
 use Rattle.cm_inline.specs.steps.Reads.{Stands}
 
--- `[` ends at the one place, and `]` is at the other, which isn't before that, with a character or the end after it.
+-- `[` ends at the one place, and `]` is at the other, which isn't before that, each with a character or the end after it.
 pub record AreBrackets (source : List ℕ) (after at : ℕ) : Type 0 where
   pub bracket : (0 < after) × (slice_index source (after - 1) ≡ left_bracket)
+  pub start : IsCharBoundary source after
   pub order : after ≤ at
   pub stands : Stands source at right_bracket
   pub next : IsCharBoundary source (at + 1)

@@ -1,5 +1,5 @@
 -- Labels of visible characters that case folding keeps, and single spaces.
-use Rattle.std.proofs.Common.{◌≡◌, ℕ, zero, suc, ◌<◌, ◌==◌, ◌&&◌, ◌||◌, not, Bool, true, false, List, [], ◌∷◌, ◌++◌, length, map, refl, ap, sym, ◌∙◌, arith, chars}
+use Rattle.std.proofs.Common.{◌≡◌, ℕ, zero, suc, ◌<◌, ◌==◌, ◌&&◌, ◌||◌, not, Bool, true, false, List, [], ◌∷◌, ◌++◌, length, map, refl, ap, ap₂, sym, ◌∙◌, arith, chars}
 use Rattle.std.specs.Prelude.{IsAscii, IsUtf8, nat_le, nat_lt, flat_map, encode_utf8_all}
 use Rattle.std.specs.List.{list_all}
 use Rattle.std.specs.Char.{to_ascii_lowercase}
@@ -9,7 +9,7 @@ use Rattle.std.proofs.lemmas.Str.{encodes-chars}
 use Rattle.caseless.specs.Caseless.{default_case_fold}
 use Rattle.ucd_case.specs.CaseFolding.{full_fold, full_folding, or_itself}
 use Rattle.cm_text.specs.Labels.{is_gap, case_fold, settle_gaps, fold_label}
-use Rattle.cm_text.specs.steps.LabelSteps.{is_plain_byte, is_plain, is_kept, is_all_ascii, is_own_fold, is_settled, settled_by}
+use Rattle.cm_text.specs.steps.LabelSteps.{is_plain_byte, is_plain, is_kept, is_all_ascii, is_own_fold, is_bracketing, is_bare, is_settled, settled_by}
 use Rattle.cm_text.proofs.lemmas.FoldLemmas.{ascii_folds}
 use Rattle.cm_text.proofs.lemmas.LabelLemmas.{settled}
 
@@ -87,6 +87,35 @@ own_case text utf8 plain h = by_kind (is_all_ascii text) refl h
     by_kind : (ascii : Bool) → is_all_ascii text ≡ ascii → (ascii || list_all is_kept (chars text)) ≡ true → case_fold text ≡ text
     by_kind true e k = ascii_folds text (all_ascii text e) ∙ plain_lower true text plain e
     by_kind false e k = kept_case text utf8 k
+
+-- such a text is bare
+
+no_bracket : (b : ℕ) → (is_plain_byte b || nat_le 128 b) ≡ true → not (is_bracketing b) ≡ true
+no_bracket b h = grind (arith, nat_tests)
+
+space_no_bracket : (b : ℕ) → (b == 32) ≡ true → not (is_bracketing b) ≡ true
+space_no_bracket b h = grind (arith, nat_tests)
+
+no_brackets : (behind : Bool) (text : List ℕ) → is_plain behind text ≡ true → list_all (λ c. not (is_bracketing c)) text ≡ true
+no_brackets behind [] h = refl
+no_brackets behind (b ∷ bs) h =
+    ap₂ ◌&&◌ (by_kind (is_plain_byte b || nat_le 128 b) refl h) (no_brackets (not (is_plain_byte b || nat_le 128 b)) bs (rest_plain behind b bs h))
+  where
+    by_kind : (plain : Bool) → (is_plain_byte b || nat_le 128 b) ≡ plain → elim plain [ true ↦ is_plain false bs | false ↦ b == 32 && not behind && is_plain true bs ] ≡ true → not (is_bracketing b) ≡ true
+    by_kind true e k = no_bracket b e
+    by_kind false e k = space_no_bracket b (and_parts (b == 32) (not behind) (and_parts (b == 32 && not behind) (is_plain true bs) k).0).0
+
+pub plain_bare : (text : List ℕ) → is_plain true text ≡ true → is_bare text ≡ true
+plain_bare [] h = h
+plain_bare (b ∷ bs) h = ap₂ ◌&&◌ (by_kind (is_plain_byte b || nat_le 128 b) refl h) (no_brackets true (b ∷ bs) h)
+  where
+    by_kind : (plain : Bool) → (is_plain_byte b || nat_le 128 b) ≡ plain → elim plain [ true ↦ is_plain false bs | false ↦ b == 32 && false && is_plain true bs ] ≡ true → not (is_gap b) ≡ true
+    by_kind true e k = ap not (no_gap b e)
+    by_kind false e k = absurd (grind (arith, nat_tests, k))
+
+-- it is read to its end, which no space is before
+pub read_out : (label rest : List ℕ) (behind : Bool) → is_plain true label ≡ is_plain behind rest → rest ≡ [] → behind ≡ false → is_plain true label ≡ true
+read_out label rest behind h none e = h ∙ ap (is_plain behind) none ∙ ap not e
 
 pub with_true : (test : Bool) → (test || true) ≡ true
 with_true true = refl

@@ -3,6 +3,7 @@ use Rattle.std.specs.Prelude.{ℕ, Bool, true, false, not, ◌&&◌, ◌||◌, �
 use Rattle.std.specs.List.{list_all}
 use Rattle.std.specs.Char.{is_ascii_graphic, is_ascii_uppercase}
 use Rattle.ucd_case.specs.CaseFolding.{full_folding}
+use Rattle.cm_text.specs.Bytes.{left_bracket, backslash, right_bracket}
 use Rattle.cm_text.specs.Labels.{is_gap}
 
 -- what a character adds to the text that was made, where a gap is before it or isn't
@@ -22,9 +23,13 @@ abbrev pub is_settled : (behind_gap : Bool) → List ℕ → Bool
 is_settled behind_gap [] = not behind_gap
 is_settled behind_gap (b ∷ bs) = settled_by (is_gap b) behind_gap (b == 32) (is_settled true bs) (is_settled false bs)
 
--- a visible ASCII character that is no capital
+-- a bracket or a backslash
+abbrev pub is_bracketing : ℕ → Bool
+is_bracketing b = b == left_bracket || b == backslash || b == right_bracket
+
+-- a visible ASCII character that is none of these, and no capital
 abbrev pub is_plain_byte : ℕ → Bool
-is_plain_byte b = is_ascii_graphic b && not (is_ascii_uppercase b)
+is_plain_byte b = is_ascii_graphic b && not (is_ascii_uppercase b) && not (is_bracketing b)
 
 -- whether case folding keeps a character
 abbrev pub is_kept : ℕ → Bool
@@ -41,3 +46,8 @@ is_all_ascii = list_all (λ b. nat_lt b 128)
 -- Whether a label is told to be its own folded form. ASCII without capitals keeps its case.
 abbrev pub is_own_fold : List ℕ → Bool
 is_own_fold label = is_plain true label && (is_all_ascii label || list_all is_kept (chars label))
+
+-- a text that starts with no gap, in which there is no bracket and no backslash
+abbrev pub is_bare : List ℕ → Bool
+is_bare [] = false
+is_bare (b ∷ bs) = not (is_gap b) && list_all (λ c. not (is_bracketing c)) (b ∷ bs)
