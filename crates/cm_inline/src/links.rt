@@ -196,7 +196,7 @@ fn reference_between(
     let between = &leaf.source[after..at];
     if between.len() <= FEW {
         if let Some(number) = plain_label_number(between) {
-            let entry = leaf.definitions.entry_by_number(rules, number, between);
+            let entry = leaf.definitions.entry_by_folded(rules, number, between);
             return Ok(end_of(entry, end));
         }
     }

@@ -88,7 +88,7 @@ impl Definitions {
         ensures err { OnErr result (self.new ≡ self.old) }
     {
         if self
-            .entry_by_number(Rules::profile(), number, label)
+            .entry_by_folded(Rules::profile(), number, label)
             .is_some()
         {
             return Ok(());
@@ -175,10 +175,10 @@ impl Definitions {
         ensures within { IfOk result (λ found. IfSome found (λ entry. entry < length self.now)) }
     {
         if let Some(number) = plain_label_number(label) {
-            return Ok(self.entry_by_number(rules, number, label));
+            return Ok(self.entry_by_folded(rules, number, label));
         }
         let folded = fold_label(self.alloc, label)?;
-        Ok(self.entry_by_number(rules, label_number(&folded), &folded))
+        Ok(self.entry_by_folded(rules, label_number(&folded), &folded))
     }
 
     /// The destination and the title of a definition by its number, which `entry_by` finds: as texts that are
@@ -191,9 +191,10 @@ impl Definitions {
         self.entries[entry].target.lend(&self.texts)
     }
 
-    /// As `entry_by`, for a label that is its own folded form, with its number (`cm_text::plain_label_number`).
+    /// As `entry_by`, for a label in its folded form, given with the label's number
+    /// (`cm_text::plain_label_number`, `cm_text::label_number`).
     #[inline(always)]
-    pub fn entry_by_number(&self, rules: Rules, number: u64, label: &str) -> Option<usize>
+    pub fn entry_by_folded(&self, rules: Rules, number: u64, label: &str) -> Option<usize>
         requires { number ≡ number_of label.now }
         ensures found { option_map (target_numbered self.now) result
             ≡ target_if_followed rules (target_under label.now self.now) }

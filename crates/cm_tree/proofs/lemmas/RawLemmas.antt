@@ -49,9 +49,6 @@ between-behind text more grown from to is utf8 begins ends = (
   subst (IsCharBoundary grown) (sym ends) (IsCharBoundary-end grown),
 )
 
-pub between-from : (text grown : List ℕ) (from to : ℕ) → length text ≡ from → IsBetween grown (length text) to → IsBetween grown from to
-between-from text grown from to begins = subst (λ n. IsBetween grown n to) begins
-
 -- what blocks stand for, where more is there
 
 pub grows-same : (raw : Raw) → Grows raw raw
@@ -118,9 +115,6 @@ blocks-grow a b (block ∷ blocks) grows placed = ap (λ t. t ∷ blocks_in b bl
 pub all-placed-grow : (a b : Raw) (blocks : List RawBlock) → Grows a b → ArePlaced a blocks → ArePlaced b blocks
 all-placed-grow a b [] grows placed = tt
 all-placed-grow a b (block ∷ blocks) grows placed = (placed-grows a b block grows placed.0, all-placed-grow a b blocks grows placed.1)
-
-pub item-grows : (a b : Raw) (item : RawItem) → Grows a b → IsItem a item → item_in b item ≡ item_in a item
-item-grows a b item grows is = slice-same a.blocks grows.blocks b.blocks item.from item.to grows.blocks_are is.0 is.1
 
 pub is_item-grows : (a b : Raw) (item : RawItem) → Grows a b → IsItem a item → IsItem b item
 is_item-grows a b item grows is = range-grows a.blocks grows.blocks b.blocks item.from item.to grows.blocks_are is

@@ -1,8 +1,8 @@
 -- What lies at places of a text, while more is put after it.
-use Rattle.std.proofs.Common.{◌≡◌, ℕ, List, [], ◌++◌, Option, Some, None, length, take, refl, sym, ap, subst, ◌∙◌, append_assoc}
+use Rattle.std.proofs.Common.{◌≡◌, ℕ, List, [], ◌++◌, Option, Some, None, length, refl, sym, ap, subst, ◌∙◌, append_assoc}
 use Rattle.std.specs.List.{slice_range}
 use Rattle.std.specs.Str.{IsUtf8, IsCharBoundary}
-use Rattle.std.proofs.lemmas.List.{append-nil, take_at}
+use Rattle.std.proofs.lemmas.List.{append-nil}
 use Rattle.std.proofs.lemmas.Str.{IsUtf8-nil, IsUtf8-append, IsCharBoundary-at_seam}
 use Rattle.cm_text.specs.Rules.{profile}
 use Rattle.cm_tree.specs.declared.target_places.TargetPlaces.{TargetPlaces}
@@ -21,13 +21,10 @@ pub between-grows : (old new : List ℕ) (from to : ℕ) → GoesOn old new → 
 between-grows old new from to grows between =
     (between.0, boundary-grows old grows.more new from grows.is grows.utf8 between.1, boundary-grows old grows.more new to grows.is grows.utf8 between.2)
 
--- where the rest starts, and what is before that
+-- where the rest starts
 
 pub seam : (old new : List ℕ) (n : ℕ) → length old ≡ n → GoesOn old new → IsCharBoundary new n
 seam old new n at grows = subst (IsCharBoundary new) at (IsCharBoundary-at_seam new old grows.more grows.is grows.utf8)
-
-pub cut-again : (old new : List ℕ) (n : ℕ) → length old ≡ n → GoesOn old new → take n new ≡ old
-cut-again old new n at grows = ap (take n) grows.is ∙ take_at old grows.more n at
 
 -- what lies there stays
 

@@ -19,6 +19,6 @@ returns-in-Some-clause-ends c =
     let target : target_under copy leaf.definitions.now ≡ target_between defined between =
     ap defined c.in-Some.ensures.folded ∙ sym (bare_between defined copy c.in-Some.ensures.bare short) ∙ ap (target_between defined) c.range-between.ensures.value in
     ap (ends_of leaf) c.end_of.ensures
-    ∙ numbered-end c.args.rules leaf end (target_between defined between) c.entry_by_number-entry.result
-    (c.entry_by_number-entry.ensures.found ∙ ap (target_if_followed c.args.rules) target)
+    ∙ numbered-end c.args.rules leaf end (target_between defined between) c.entry_by_folded-entry.result
+    (c.entry_by_folded-entry.ensures.found ∙ ap (target_if_followed c.args.rules) target)
     ∙ ap (λ rest. end_if_followed c.args.rules (leads_to (target_between defined between) rest)) c.after_brackets-end.ensures.rest

@@ -3,7 +3,7 @@ use Rattle.cm_tree.specs.Definitions.{Target, target_numbered, target_if_followe
 use Rattle.cm_tree.specs.steps.LabelIndex.{IsLabel, IsNew}
 use Rattle.cm_tree.specs.steps.Entries.{labels_in}
 use Rattle.cm_tree.proofs.lemmas.EntryLemmas.{has-none, has-followed}
-use Rattle.cm_tree.proofs.definitions.Definitions.entry_by_number.Goals as goal
+use Rattle.cm_tree.proofs.definitions.Definitions.entry_by_folded.Goals as goal
 
 pub returns-in_err-entry-clause-found : goal.returns-in_err-entry-clause-found
 returns-in_err-entry-clause-found c =
