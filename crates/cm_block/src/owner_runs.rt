@@ -146,10 +146,8 @@ impl OwnerRuns {
         // The number of runs bounds those of the lines and of the leaves.
         let _runs = self.closed.len();
         self.leaves = leaves_with(self.leaves, owner);
-        self.last = OwnerRun {
-            owner,
-            lines: lines as u16,
-        };
+        self.last.owner = owner;
+        self.last.lines = lines as u16;
         self.count += lines as u128;
         Ok(())
     }
