@@ -1,8 +1,8 @@
 //! Infos of code blocks.
-ghost use Rattle.std.specs.Prelude.{◌≡◌, ◌∷◌, [], string_bytes, IfOk};
+ghost use Rattle.std.specs.Prelude.{◌≡◌, ◌∷◌, [], string_bytes, OnOk};
 ghost use Rattle.cm_block.specs.Prelude.{is_line_space, as_space, info_of};
 
-use cm_text::{ByteKind, NoMemory, Replaced, Rules, push_replaced, unescape};
+use cm_text::{ByteKind, NoMemory, Replaced, Rules, push_replaced, unescape_or_lend};
 use std::alloc::{AllocError, Global};
 use std::simd::prelude::*;
 
@@ -32,16 +32,22 @@ impl Replaced for LineSpace {
     }
 }
 
-/// The info of a code block, from its source. Escapes and references are resolved. With rules without raw
-/// HTML it is one line.
-pub(crate) fn info_of(alloc: Global, rules: Rules, source: &str) -> Result<String, NoMemory>
-    ensures { IfOk result (λ info. string_bytes info ≡ info_of rules source.now) }
+/// Replaces an info by that of a code block, from its source. Escapes and references are resolved. With rules
+/// without raw HTML it is one line. The memory of the info is used again.
+pub(crate) fn set_info(
+    alloc: Global,
+    rules: Rules,
+    source: &str,
+    info: &mut String,
+) -> Result<(), NoMemory>
+    ensures { OnOk result (string_bytes info.new ≡ info_of rules source.now) }
 {
-    let resolved = unescape(alloc, source)?;
+    let resolved = unescape_or_lend(alloc, source)?;
+    info.clear();
     if rules.raw_html() {
-        return Ok(resolved);
+        info.push_str(&resolved)?;
+        return Ok(());
     }
-    let mut info = String::with_capacity(alloc, resolved.len())?;
-    push_replaced::<LineSpace>(&mut info, &resolved)?;
-    Ok(info)
+    push_replaced::<LineSpace>(info, &resolved)?;
+    Ok(())
 }

@@ -16,7 +16,7 @@ use crate::counted_line::LeafStart;
 use crate::counted_line::copies::push_line;
 use crate::counted_line::ends::ends_html;
 use crate::counted_line::starts::{Start, content};
-use crate::infos::info_of;
+use crate::infos::set_info;
 use crate::leaf_block::LeafBlock;
 use crate::leaf_kind::LeafKind;
 use crate::open_leaf::{Ending, LeafLine, OpenLeaf};
@@ -91,7 +91,7 @@ fn begin_fence(
     ensures { OnOk result (begins_leaf (stays_open (leaf_of leaf.new))
         ≡ begin_of_start rules (seen (Fence fence.entry)) (seen_view line.now)) }
 {
-    leaf.info = info_of(alloc, rules, fence.info)?;
+    set_info(alloc, rules, fence.info, &mut leaf.info)?;
     leaf.kind = LeafKind::Fence {
         kind: fence.kind,
         columns: line.indent(),
