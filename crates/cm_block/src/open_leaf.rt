@@ -55,7 +55,7 @@ pub(crate) enum LeafLine {
 }
 
 /// Whether a blank line ends an HTML block of this kind (4.6 HTML blocks).
-fn ends_at_blank_line(kind: HtmlKind) -> bool
+pub(crate) fn ends_at_blank_line(kind: HtmlKind) -> bool
     ensures { result ≡ ends_at_blank_line (kind_of kind) }
 {
     matches!(kind, HtmlKind::BlockTag | HtmlKind::AnyTag)

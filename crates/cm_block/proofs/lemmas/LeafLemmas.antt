@@ -54,6 +54,16 @@ pub html_ends : (kind : HtmlKind) (n : ℕ) (text : List ℕ) (read : Option ℕ
     → is_some read ≡ is_html_end kind (replicate n 32 ++ text)
 html_ends kind n text read end e = ap is_some e ∙ some-given (is_html_end kind text) end ∙ sym (end-spaces kind n text)
 
+pub no_html_end : (kind : HtmlKind) (text : List ℕ) → ends_at_blank_line kind ≡ true → false ≡ is_html_end kind text
+unfolding is_html_end
+no_html_end RawText text ends = absurd (cc ends)
+no_html_end Comment text ends = absurd (cc ends)
+no_html_end Instruction text ends = absurd (cc ends)
+no_html_end Declaration text ends = absurd (cc ends)
+no_html_end CharacterData text ends = absurd (cc ends)
+no_html_end BlockTag text ends = refl
+no_html_end AnyTag text ends = refl
+
 -- by which kind it is open
 
 pub is_nothing : (kind : LeafKind) (text blanks info : List ℕ) → leaf_with kind text blanks info ≡ no_leaf → kind ≡ leaf.Nothing

@@ -4,6 +4,7 @@ ghost use Rattle.cm_text.specs.Indentation.{indent_from};
 ghost use Rattle.cm_block.specs.Prelude.{seen_view, underline_of, closes_fence, is_html_end, kind_of};
 
 use crate::counted_line::starts::{begins_plain, begins_with_letter, content};
+use crate::open_leaf::ends_at_blank_line;
 use cm_scan::{FenceKind, HtmlKind, fence_end, html_end, is_next, underline};
 use cm_text::View;
 
@@ -59,9 +60,13 @@ pub(crate) fn closes_fence(kind: FenceKind, line: &View<'_>) -> bool
     may_close_fence(kind, line) && line.indent() <= 3 && fence_end(kind, content(line), 0).is_some()
 }
 
-/// Whether the line meets the end condition of an HTML block of this kind.
+/// Whether the line meets the end condition of an HTML block of this kind. Those that a blank line ends have
+/// none.
 pub(crate) fn ends_html(kind: HtmlKind, line: &View<'_>) -> bool
     ensures { result ≡ is_html_end (kind_of kind) (seen_view line.now).text }
 {
+    if ends_at_blank_line(kind) {
+        return false;
+    }
     html_end(kind, line.rest, 0).is_some()
 }
