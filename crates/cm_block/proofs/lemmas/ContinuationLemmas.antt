@@ -14,7 +14,7 @@ use Rattle.cm_scan.specs.blocks.Lines.{is_blank, content_of, past, as_lazy}
 use Rattle.cm_scan.specs.blocks.Starts.{Start, IndentedCode, QuoteMarker, AtxHeading, OpeningFence, HtmlStart, BreakLine, ItemStart, TextLine, start_of, Continuation, Stays, StaysIfOpen, Leaves, may_be_lazy, continuation_if_lazy, behind_quote_marker, quote_continuation, continuation_in_quote, behind_marker, content_offset, content_column, first_content, continuation_in_item}
 use Rattle.cm_scan.specs.blocks.LineForms.{ItemMarker}
 use Rattle.cm_scan.specs.laws.PartLaws.{goes_inward}
-use Rattle.cm_text.specs.Indentation.{indent_of, strip_columns}
+use Rattle.cm_text.specs.Indentation.{indent_of, strip_columns, after_indent}
 use Rattle.cm_text.specs.Views.{seen_view}
 use Rattle.cm_text.specs.declared.view.View.{View}
 use Rattle.cm_text.proofs.lemmas.StripLemmas.{strip_takes_columns}
@@ -138,22 +138,45 @@ module _ (rules : Rules) (column : ℕ) (bare : Bool) (line : LineView) where
       go false false blank reach neither = in_item_near e blank (grind (arith, nat_tests, reach))
 
 -- a line of which as many columns are taken as there are up to a column
+
+columns-taken : (column : ℕ) (line inner : LineView) → inner ≡ strip_columns column line → inner.column ≡ line.column + min column (indent_of line)
+columns-taken column line inner is = ap (λ (l : LineView). l.column) is ∙ (strip_takes_columns column line).0
+
 pub far_enough : (column : ℕ) (line inner : LineView) (blank : Bool) → inner ≡ strip_columns column line → inner.column - line.column ≡ column → (inner.column - line.column == column) ≡ (nat_le column (indent_of line) || blank)
 far_enough column line inner blank is far =
-    let taken : inner.column ≡ line.column + min column (indent_of line) = ap (λ (l : LineView). l.column) is ∙ (strip_takes_columns column line).0 in
+    let taken = columns-taken column line inner is in
     let reach : nat_le column (indent_of line) ≡ true = grind (arith, nat_tests, taken, far) in
     grind (arith, nat_tests, reach, far)
 
 pub not_far_enough : (column : ℕ) (line inner : LineView) (blank : Bool) → inner ≡ strip_columns column line → inner.column - line.column ≢ column → blank ≡ (nat_le column (indent_of line) || blank)
 not_far_enough column line inner blank is near =
-    let taken : inner.column ≡ line.column + min column (indent_of line) = ap (λ (l : LineView). l.column) is ∙ (strip_takes_columns column line).0 in
+    let taken = columns-taken column line inner is in
     let reach : nat_le column (indent_of line) ≡ false = grind (arith, nat_tests, taken, near) in
     grind (arith, reach)
 
 pub taken_goes_on : (column : ℕ) (line inner : LineView) → inner ≡ strip_columns column line → line.column ≤ inner.column
 taken_goes_on column line inner is =
-    let taken : inner.column ≡ line.column + min column (indent_of line) = ap (λ (l : LineView). l.column) is ∙ (strip_takes_columns column line).0 in
+    let taken = columns-taken column line inner is in
     grind (arith, taken)
+
+-- a line without some columns of its indentation
+
+blank-after : (text : List ℕ) → is_blank_text text ≡ is_blank_text (after_indent text)
+blank-after [] = refl
+blank-after (b ∷ bs) = let h : is_blank_text bs ≡ is_blank_text (after_indent bs) = blank-after bs in grind (arith, h)
+
+module _ (n : ℕ) (line inner : LineView) (is : inner ≡ strip_columns n line) where
+  pub blank_inside : is_blank inner ≡ is_blank line
+  blank_inside =
+      blank-after inner.text
+      ∙ ap is_blank_text (ap (λ (l : LineView). after_indent l.text) is ∙ (strip_takes_columns n line).2)
+      ∙ sym (blank-after line.text)
+
+  pub near_inside : inner.column - line.column < n → indent_of line < n
+  near_inside near = let taken = columns-taken n line inner is in grind (arith, near, taken)
+
+  pub far_inside : n ≤ inner.column - line.column → n ≤ indent_of line
+  far_inside far = let taken = columns-taken n line inner is in grind (arith, far, taken)
 
 -- a line after a marker
 
@@ -201,6 +224,27 @@ unfolding first_content
 first_is_content marker line behind offset at is = ap₂ strip_columns (is ∙ ap content_offset at) at
 
 -- the spaces at the start of a text, and what is after them
+
+pub some_spaces : (n : ℕ) (text : List ℕ) → n ≤ run_length 32 text → text ≡ replicate n 32 ++ drop n text
+unfolding run_length
+some_spaces zero text few = refl
+some_spaces (suc n) [] few = absurd (omega (arith, few))
+some_spaces (suc n) (b ∷ bs) few = go (b == 32) refl (some_spaces n bs) few
+  where
+    go : (space : Bool) → (b == 32) ≡ space → (n ≤ run_length 32 bs → bs ≡ replicate n 32 ++ drop n bs)
+        → suc n ≤ elim space as (λ _. ℕ) [ true ↦ suc (run_length 32 bs) | false ↦ 0 ]
+        → b ∷ bs ≡ 32 ∷ replicate n 32 ++ drop n bs
+    go true e again few = ap₂ (λ c cs. c ∷ cs) (eqb-true b 32 e) (again (omega (arith, few)))
+    go false e again few = absurd (omega (arith, few))
+
+pub run_within : (text : List ℕ) → run_length 32 text ≤ length text
+unfolding run_length
+run_within [] = omega arith
+run_within (b ∷ bs) = go (b == 32) (run_within bs)
+  where
+    go : (space : Bool) → run_length 32 bs ≤ length bs → elim space as (λ _. ℕ) [ true ↦ suc (run_length 32 bs) | false ↦ 0 ] ≤ suc (length bs)
+    go true h = omega (arith, h)
+    go false h = omega arith
 
 spaces-front : (text : List ℕ) → replicate (run_length 32 text) 32 ++ drop (run_length 32 text) text ≡ text
 unfolding run_length

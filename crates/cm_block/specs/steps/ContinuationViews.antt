@@ -1,10 +1,10 @@
 -- Starts of containers and continuations in them, as the code has them.
-use Rattle.std.specs.Prelude.{◌≡◌, ℕ, ◌+◌, ◌<◌, ◌≤◌, ◌==◌, Bool, true, false, not, List, [], ◌∷◌, length, get_or, Some}
+use Rattle.std.specs.Prelude.{◌≡◌, ℕ, ◌+◌, ◌<◌, ◌≤◌, ◌==◌, Bool, true, false, not, List, [], ◌∷◌, length, get_or, Some, nat_le, if◌then◌else◌}
 use Rattle.cm_text.specs.Lines.{LineView}
 use Rattle.cm_block.specs.declared.stack.Stays as code_stays
 use Rattle.cm_block.specs.declared.stack.Stays.TheVariants as stay
 use Rattle.cm_scan.specs.declared.markers.ItemMarker as code
-use Rattle.cm_scan.specs.Words.{is_space_or_tab}
+use Rattle.cm_scan.specs.Words.{is_space_or_tab, begins_with, run_length}
 use Rattle.cm_scan.specs.blocks.LineForms.{ItemMarker, item_marker}
 use Rattle.cm_text.specs.declared.view.View.{View}
 use Rattle.cm_text.specs.Rules.{Rules}
@@ -34,6 +34,11 @@ stays stay.Leaves = false
 abbrev pub begins_plain : List ℕ → Bool
 begins_plain [] = false
 begins_plain (b ∷ bs) = not (is_space_or_tab b)
+
+-- By its first bytes the text may close a fence of this marker: it starts with the marker, or with a space or a tab, though not with four
+-- spaces, or is empty.
+abbrev pub may_close_fence : (marker : ℕ) → List ℕ → Bool
+may_close_fence marker text = if begins_plain text then begins_with marker text else not (nat_le 4 (run_length 32 text))
 
 -- The text starts with this marker, which ends at a place, with one space there, and then a byte that is neither blank nor the first of
 -- the text.

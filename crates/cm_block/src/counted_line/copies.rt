@@ -6,7 +6,7 @@ ghost use Rattle.cm_block.specs.OpenLeaf.{stays_open, line_of_leaf};
 ghost use Rattle.cm_block.specs.LeafViews.{code_of};
 
 use crate::counted_line::continuations::is_blank;
-use crate::counted_line::starts::content;
+use crate::counted_line::starts::{content, strip_four};
 use crate::leaf_text::LeafText;
 use cm_text::View;
 use std::alloc::AllocError;
@@ -60,16 +60,17 @@ pub(crate) fn take_code_line(
     ensures kept { IfOk result (λ taken. taken ≡ false → text.new ≡ text.old) }
     ensures waiting { IfOk result (λ taken. taken ≡ false → blank_lines.new ≡ blank_lines.old) }
 {
-    if is_blank(line) {
-        push_whole_line(blank_lines, &line.strip(4))?;
+    let inner = strip_four(line);
+    if is_blank(&inner) {
+        push_whole_line(blank_lines, &inner)?;
         return Ok(true);
     }
-    if line.indent() < 4 {
+    if inner.column - line.column < 4 {
         return Ok(false);
     }
     text.end_line()?;
     text.push_text(blank_lines)?;
-    push_line(text, &line.strip(4))?;
+    push_line(text, &inner)?;
     blank_lines.clear();
     Ok(true)
 }

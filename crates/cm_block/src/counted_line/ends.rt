@@ -1,9 +1,11 @@
 //! Whether a line ends the open leaf.
-ghost use Rattle.std.specs.Prelude.{◌≡◌, ◌≤◌, ℕ, List, true, false};
-ghost use Rattle.cm_text.specs.Indentation.{indent_from};
+ghost use Rattle.std.specs.Prelude.{◌≡◌, ℕ, List};
 ghost use Rattle.cm_block.specs.Prelude.{seen_view, underline_of, closes_fence, is_html_end, kind_of};
+ghost use Rattle.cm_block.specs.steps.ContinuationViews.{may_close_fence};
 
-use crate::counted_line::starts::{begins_plain, begins_with_letter, content};
+use crate::counted_line::starts::{
+    begins_plain, begins_with_four_spaces, begins_with_letter, content,
+};
 use crate::open_leaf::ends_at_blank_line;
 use cm_scan::{FenceKind, HtmlKind, fence_end, html_end, is_next, underline};
 use cm_text::View;
@@ -26,24 +28,11 @@ pub(crate) fn underline_of(line: &View<'_>) -> Option<u8>
     Some(level)
 }
 
-/// Whether a text starts with four spaces.
-#[inline(always)]
-fn begins_with_four_spaces(text: &str) -> bool
-    ensures { result ≡ true → (column : ℕ) → 4 ≤ indent_from column text.now }
-{
-    match text.as_bytes() {
-        [b' ', b' ', b' ', b' ', ..] => true,
-        _ => false,
-    }
-}
-
 /// Whether a line may be the closing fence, by its first bytes. Those of most lines of code show that it
 /// isn't.
 #[inline(always)]
 fn may_close_fence(kind: FenceKind, line: &View<'_>) -> bool
-    ensures { result ≡ false → (info : List ℕ) →
-        closes_fence (record { marker = kind.marker; count = kind.count; info = info })
-        (seen_view line.now) ≡ false }
+    ensures { result ≡ may_close_fence kind.marker line.now.rest.now }
 {
     if begins_plain(line.rest) {
         return is_next(line.rest.as_bytes(), 0, kind.marker);
@@ -57,7 +46,10 @@ pub(crate) fn closes_fence(kind: FenceKind, line: &View<'_>) -> bool
         ≡ closes_fence (record { marker = kind.marker; count = kind.count; info = info })
         (seen_view line.now) }
 {
-    may_close_fence(kind, line) && line.indent() <= 3 && fence_end(kind, content(line), 0).is_some()
+    if !may_close_fence(kind, line) {
+        return false;
+    }
+    line.indent() <= 3 && fence_end(kind, content(line), 0).is_some()
 }
 
 /// Whether the line meets the end condition of an HTML block of this kind. Those that a blank line ends have

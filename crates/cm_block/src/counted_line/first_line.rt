@@ -15,7 +15,7 @@ ghost use Rattle.cm_block.specs.steps.FirstLines.{opens_leaf};
 use crate::counted_line::LeafStart;
 use crate::counted_line::copies::push_line;
 use crate::counted_line::ends::ends_html;
-use crate::counted_line::starts::{Start, content};
+use crate::counted_line::starts::{Start, content, strip_four};
 use crate::infos::set_info;
 use crate::leaf_block::LeafBlock;
 use crate::leaf_kind::LeafKind;
@@ -75,7 +75,7 @@ fn begin_code(leaf: &mut OpenLeaf, line: &View<'_>) -> Result<(), AllocError>
 {
     leaf.kind = LeafKind::Code;
     leaf.blank_lines.clear();
-    push_line(&mut leaf.text, &line.strip(4))
+    push_line(&mut leaf.text, &strip_four(line))
 }
 
 /// Opens a fenced code block, with its info resolved. Each further line loses as many columns as this one has

@@ -1,6 +1,8 @@
 //! What a line starts: a quote, an item, or a leaf block (CommonMark 0.31.2, chapters 4 and 5).
-ghost use Rattle.std.specs.Prelude.{◌≡◌, ◌==◌, ◌&&◌, false, true};
+ghost use Rattle.std.specs.Prelude.{◌≡◌, ◌==◌, ◌&&◌, false, true, nat_le};
+ghost use Rattle.std.specs.Str.{IsCharBoundary};
 ghost use Rattle.cm_text.specs.TextLines.{is_text_behind};
+ghost use Rattle.cm_block.specs.Prelude.{strip_columns, run_length};
 ghost use Rattle.cm_block.specs.Prelude.{is_line, seen_view, is_at_letter, content_of, given};
 ghost use Rattle.cm_block.specs.Prelude.{◌<|>◌, is_thematic_break, atx_heading, opening_fence};
 ghost use Rattle.cm_block.specs.Prelude.{item_marker, html_start, HtmlStart, BreakLine};
@@ -62,6 +64,30 @@ pub(crate) fn begins_plain(text: &str) -> bool
         [b, ..] => *b != b' ' && *b != b'\t',
         [] => false,
     }
+}
+
+/// Whether a text starts with four spaces.
+#[inline(always)]
+pub(crate) fn begins_with_four_spaces(text: &str) -> bool
+    ensures spaces { result ≡ nat_le 4 (run_length 32 text.now) }
+    ensures boundary { result ≡ true → IsCharBoundary text.now 4 }
+{
+    match text.as_bytes() {
+        [b' ', b' ', b' ', b' ', ..] => true,
+        _ => false,
+    }
+}
+
+/// The line without 4 columns of indentation, or without its indentation if that is less. Mostly four spaces
+/// are there.
+#[inline(always)]
+pub(crate) fn strip_four<'a>(line: &View<'a>) -> View<'a>
+    ensures { seen_view result ≡ strip_columns 4 (seen_view line.now) }
+{
+    if line.spaces == 0 && begins_with_four_spaces(line.rest) {
+        return line.past(4);
+    }
+    line.strip(4)
 }
 
 /// The line after its indentation.

@@ -12,7 +12,7 @@ returns c =
     let empty : text ≡ [] = no_text c.args.leaf.now c.requires in
     on_ok_weaker c.push_line.result (λ pushed by.
     code_begins by c.push_line.new.text c.clear.new.self (seen_view c.args.line.now)
-    (pushed ∙ ap₂ (λ t (l : LineView). t ++ l.text) empty c.strip.ensures.line)
-    (feeds_of_first c.push_line.new.text text c.strip.result.spaces c.strip.result.rest.now
-    empty pushed c.strip.result.one_line)
+    (pushed ∙ ap₂ (λ t (l : LineView). t ++ l.text) empty c.strip_four.ensures)
+    (feeds_of_first c.push_line.new.text text c.strip_four.result.spaces c.strip_four.result.rest.now
+    empty pushed c.strip_four.result.one_line)
     c.clear.ensures) c.push_line.ensures
