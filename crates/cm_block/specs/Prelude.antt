@@ -4,7 +4,7 @@ pub use Rattle.cm_scan.specs.blocks.HtmlBlocks.{ends_at_blank_line, html_start, 
 pub use Rattle.cm_scan.specs.blocks.HtmlKinds.{kind_of}
 pub use Rattle.cm_scan.specs.laws.PartLaws.{goes_inward}
 pub use Rattle.cm_scan.specs.blocks.LineForms.{atx_heading, is_thematic_break, item_marker, opening_fence}
-pub use Rattle.cm_scan.specs.blocks.Lines.{content_of, is_blank, with_ending}
+pub use Rattle.cm_scan.specs.blocks.Lines.{as_lazy, content_of, is_blank, with_ending}
 pub use Rattle.cm_scan.specs.inlines.Links.{definitions_of, link_definition}
 pub use Rattle.cm_scan.specs.blocks.Parts.{as_space, code, definition, html, info_of, leaf_block}
 pub use Rattle.cm_scan.specs.blocks.Starts.{BreakLine, HtmlStart, ItemStart, QuoteMarker, behind_marker, behind_quote_marker, can_interrupt, content_column, content_offset, first_content, interrupts_paragraph, may_be_lazy, or_text, continuation_if_lazy, continuation_in_item, continuation_in_quote, seen_as, start_of, start_of_content, starts_at_one, underline_of}

@@ -37,7 +37,9 @@ use crate::stack::Stack;
 use cm_scan::{FenceKind, HtmlKind};
 use cm_text::{NoMemory, Rules, TextLines, View};
 use cm_tree::{ListKind, RawFault};
-use continuations::{ends_bare_item, if_lazy, is_blank, item_content, quote_content, with_columns};
+use continuations::{
+    can_be_lazy, ends_bare_item, is_blank, item_content, quote_content, with_columns,
+};
 use copies::{add_text, push_next_line, push_whole_line, take_code_line};
 use ends::{closes_fence, ends_html, underline_of};
 use first_line::{begin_leaf, put_whole};
@@ -224,10 +226,10 @@ impl<'a> CountedLine<'a> {
         ensures lazy { result ≡ true → self.new.rest.lazy ≡ true }
         ensures tests { Tested 1 1 self.old.tests self.new.tests }
     {
-        let Some(inner) = if_lazy(rules, &self.read(), open_text) else {
+        if !can_be_lazy(rules, &self.read(), open_text) {
             return false;
-        };
-        self.enter(inner);
+        }
+        self.rest.lazy = true;
         true
     }
 

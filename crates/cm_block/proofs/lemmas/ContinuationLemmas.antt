@@ -9,7 +9,7 @@ use Rattle.cm_text.specs.Rules.{Rules}
 use Rattle.cm_text.specs.Search.{is_no_space}
 use Rattle.cm_text.specs.Lines.{LineView}
 use Rattle.cm_text.specs.LineText.{is_line, tabs}
-use Rattle.cm_scan.specs.Words.{is_blank_text, run_length}
+use Rattle.cm_scan.specs.Words.{given, is_blank_text, run_length}
 use Rattle.cm_scan.specs.blocks.Lines.{is_blank, content_of, past, as_lazy}
 use Rattle.cm_scan.specs.blocks.Starts.{Start, IndentedCode, QuoteMarker, AtxHeading, OpeningFence, HtmlStart, BreakLine, ItemStart, TextLine, start_of, Continuation, Stays, StaysIfOpen, Leaves, may_be_lazy, continuation_if_lazy, behind_quote_marker, quote_continuation, continuation_in_quote, behind_marker, content_offset, content_column, first_content, continuation_in_item}
 use Rattle.cm_scan.specs.blocks.LineForms.{ItemMarker}
@@ -36,11 +36,20 @@ module _ (rules : Rules) where
       let e : may_be_lazy (start_of rules line) ≡ false = rw is at other in
       grind (arith, some, e)
 
-  pub lazy_stays : (line : LineView) (start : Start) → is_blank line ≡ false → start ≡ start_of rules line → may_be_lazy start ≡ true → StaysIfOpen (as_lazy line) ≡ continuation_if_lazy rules line
+  lazy_stays : (line : LineView) (start : Start) → is_blank line ≡ false → start ≡ start_of rules line → may_be_lazy start ≡ true → StaysIfOpen (as_lazy line) ≡ continuation_if_lazy rules line
   unfolding continuation_if_lazy
   lazy_stays line start some is may =
       let e : may_be_lazy (start_of rules line) ≡ true = rw is at may in
       grind (arith, some, e)
+
+  -- while a paragraph is left open
+  pub lazy_given : (line : LineView) (start : Start) → is_blank line ≡ false → start ≡ start_of rules line
+      → given (may_be_lazy start) (as_lazy line) ≡ goes_inward (continuation_if_lazy rules line) true
+  lazy_given line start some is = go (may_be_lazy start) refl
+    where
+      go : (may : Bool) → may_be_lazy start ≡ may → given may (as_lazy line) ≡ goes_inward (continuation_if_lazy rules line) true
+      go true may = ap (λ p. goes_inward p true) (lazy_stays line start some is may)
+      go false other = ap (λ p. goes_inward p true) (lazy_other line start some is other)
 
   -- a lazy continuation line goes inward only where a paragraph is left open
   pub lazy_closed : (line : LineView) → None ≡ goes_inward (continuation_if_lazy rules line) false

@@ -1,14 +1,15 @@
 -- What the spaces before the rest of a line say of an open item.
 use Rattle.std.specs.Prelude.{nat_le, ◌||◌}
 use Rattle.std.proofs.lemmas.Bool.Decides.{nat_tests}
-use Rattle.std.proofs.Common.{◌≡◌, ℕ, ◌+◌, ◌-◌, ◌<◌, ◌≤◌, Bool, true, false, not, List, [], ◌∷◌, ◌++◌, replicate, refl, sym, ◌∙◌, ap, arith}
+use Rattle.std.proofs.Common.{◌≡◌, ℕ, ◌+◌, ◌-◌, ◌<◌, ◌≤◌, Bool, true, false, List, [], ◌++◌, replicate, sym, ◌∙◌, ap, arith}
 use Rattle.cm_text.specs.Lines.{LineView}
 use Rattle.cm_text.specs.Indentation.{indent_of, strip_from, strip_columns}
 use Rattle.cm_text.proofs.lemmas.ViewLemmas.{indent_spaces, strip_all}
-use Rattle.cm_scan.specs.Words.{is_blank_text, is_space_or_tab}
+use Rattle.cm_scan.specs.Words.{is_blank_text}
 use Rattle.cm_scan.specs.blocks.Lines.{is_blank}
 use Rattle.cm_block.specs.steps.ContinuationViews.{begins_plain}
 use Rattle.cm_block.proofs.lemmas.ContinuationLemmas.{blank_spaces}
+use Rattle.cm_block.proofs.lemmas.PlainItems.{plain_indent, plain_some}
 
 module _ (column spaces from : ℕ) (rest : List ℕ) (lazy : Bool) where
   abbrev pub line : LineView
@@ -38,14 +39,7 @@ module _ (column spaces from : ℕ) (rest : List ℕ) (lazy : Bool) where
   -- something else is after them, and they don't reach it
   pub plain_behind : begins_plain rest ≡ true → spaces < column → (nat_le column (indent_of line) || is_blank line) ≡ false
   plain_behind plain near =
-      let no_more = go rest refl in
-      let e = indent_spaces spaces from rest in
-      let h : nat_le column (indent_of line) ≡ false = grind (arith, nat_tests, e, no_more.0, near) in
-      let blank : is_blank line ≡ false = blank_spaces spaces rest ∙ no_more.1 in
+      let e = plain_indent spaces from rest plain in
+      let h : nat_le column (indent_of line) ≡ false = grind (arith, nat_tests, e, near) in
+      let blank = plain_some spaces rest plain in
       grind (arith, h, blank)
-    where
-      go : (text : List ℕ) → rest ≡ text → (indent_of (record { column = from + spaces; text = rest; lazy = lazy }) ≡ 0) × (is_blank_text rest ≡ false)
-      go [] is = absurd (cc (ap begins_plain is, plain))
-      go (b ∷ bs) is =
-          let h : not (is_space_or_tab b) ≡ true = sym (ap begins_plain is) ∙ plain in
-          rw is (grind (arith, h), grind (arith, h))

@@ -14,7 +14,8 @@ use Rattle.cm_tree.specs.declared.tree.ListKind.{ListKind}
 use Rattle.cm_scan.specs.blocks.HtmlBlocks.{HtmlKind, html_start}
 use Rattle.cm_scan.specs.blocks.Starts.{Start, QuoteMarker, ItemStart, start_of_content, start_by, start_of}
 use Rattle.cm_block.specs.steps.ContinuationViews.{begins_quote}
-use Rattle.cm_block.proofs.lemmas.StartLemmas.{first}
+use Rattle.cm_block.proofs.lemmas.StartLemmas.{first, starts_lazy, starts_code, starts_content}
+use Rattle.std.proofs.lemmas.Bool.Decides.{nat_tests}
 
 -- a marker at the start of a text
 pub record Marked (text : List ℕ) (marker : ItemMarker) : Type 0 where
@@ -160,6 +161,19 @@ module _ (rules : Rules) where
   pub a-quote : (text : List ℕ) → begins_with 62 text ≡ true → start_of_content rules text ≡ QuoteMarker
   unfolding start_of_content
   a-quote text e = ap (λ q. first q (atx_heading text) (opening_fence text) (html_start rules text) (is_thematic_break text) (item_marker text)) e
+
+  -- a line whose content doesn't start with its marker
+  pub no_quote : (line : LineView) → begins_with 62 (content_of line) ≡ false → begins_quote (start_of rules line) ≡ false
+  no_quote line e = go line.lazy (nat_le 4 (indent_of line)) refl refl
+    where
+      go : (lazy far : Bool) → line.lazy ≡ lazy → nat_le 4 (indent_of line) ≡ far → begins_quote (start_of rules line) ≡ false
+      go true far is reach = ap begins_quote (sym (starts_lazy rules line is))
+      go false true is reach = ap begins_quote (sym (starts_code rules line is (grind (arith, nat_tests, reach))))
+      go false false is reach = ap begins_quote (sym (starts_content rules line is (grind (arith, nat_tests, reach)))) ∙ no-quote (content_of line) e
+
+pub quote_plain : (text : List ℕ) → begins_with 62 text ≡ true → tabs (take 1 text) ≡ 0
+quote_plain [] e = absurd (cc e)
+quote_plain (b ∷ bs) e = grind (arith, nat_tests, e)
 
 gap-byte : (b : ℕ) (bs : List ℕ) → is_at_gap (b ∷ bs) ≡ true → b < 128
 gap-byte b bs e = grind (arith, e)

@@ -47,6 +47,14 @@ pub plain_content : (n : ℕ) (text : List ℕ) → begins_plain text ≡ true �
 plain_content n [] plain = absurd (cc (plain))
 plain_content n (b ∷ bs) plain = sym (content-spaces b bs (grind (arith, plain)) n)
 
+pub plain_indent : (n column : ℕ) (text : List ℕ) → begins_plain text ≡ true → indent_from column (replicate n 32 ++ text) ≡ n
+plain_indent n column [] plain = absurd (cc (plain))
+plain_indent n column (b ∷ bs) plain = indent-spaces b bs (grind (arith, plain)) n column
+
+pub plain_some : (n : ℕ) (text : List ℕ) → begins_plain text ≡ true → is_blank_text (replicate n 32 ++ text) ≡ false
+plain_some n [] plain = absurd (cc (plain))
+plain_some n (b ∷ bs) plain = some-text b bs (grind (arith, plain)) n
+
 -- no thematic break has two different bytes that aren't blank
 
 all-fails : (p : ℕ → Bool) (xs : List ℕ) (k : ℕ) → k < length xs → p (get_or xs k 0) ≡ false → list_all p xs ≡ false

@@ -1,19 +1,19 @@
 //! Whether a line stays inside an open container, and the rest of it there.
 ghost use Rattle.std.specs.Prelude.{◌≡◌, ◌≤◌, ◌&&◌, ◌||◌};
-ghost use Rattle.std.specs.Prelude.{drop, length, nat_le, true, false, option_map, IfSome, MatchOption};
+ghost use Rattle.std.specs.Prelude.{drop, length, nat_le, true, false, MatchOption};
 ghost use Rattle.cm_block.specs.Prelude.{indent_of, strip_columns, seen_view, is_blank, QuoteMarker};
 ghost use Rattle.cm_block.specs.Prelude.{ItemStart, start_of, may_be_lazy};
 ghost use Rattle.cm_block.specs.Prelude.{continuation_if_lazy, behind_quote_marker, run_length};
 ghost use Rattle.cm_block.specs.Prelude.{continuation_in_quote, content_offset, content_column};
 ghost use Rattle.cm_block.specs.Prelude.{behind_marker, continuation_in_item, first_content};
-ghost use Rattle.cm_block.specs.Prelude.{goes_inward, given};
+ghost use Rattle.cm_block.specs.Prelude.{as_lazy, goes_inward, given};
 ghost use Rattle.cm_text.specs.Rules as all;
 ghost use Rattle.cm_block.specs.steps.LineTests.{Tested};
 ghost use Rattle.cm_block.specs.steps.StartViews.{seen};
 ghost use Rattle.cm_block.specs.steps.ContinuationViews.{begins_quote, seen_marker};
 
 use crate::counted_line::items::plain_marker;
-use crate::counted_line::starts::{Start, start_of};
+use crate::counted_line::starts::{Start, begins_plain, content, indent_of, start_of};
 use cm_scan::{HtmlKind, ItemMarker, is_blank_text, quote_marker};
 use cm_text::{Rules, View, leading_spaces};
 
@@ -43,10 +43,12 @@ pub(crate) fn with_columns<'a>(line: &View<'a>) -> View<'a>
 }
 
 /// Whether a line is blank (2.1 Characters and lines).
-#[tactic(auto, using(crate::proofs::lemmas::ContinuationLemmas::blank_spaces))]
 pub(crate) fn is_blank(line: &View) -> bool
     ensures { result ≡ is_blank (seen_view line.now) }
 {
+    if begins_plain(line.rest) {
+        return false;
+    }
     is_blank_text(line.rest.as_bytes())
 }
 
@@ -60,43 +62,33 @@ fn may_be_lazy(start: &Start<'_>) -> bool
     )
 }
 
-/// The line as a lazy continuation line, if it can be one: `open_text` says whether the lines so far leave a
+/// Whether the line can be a lazy continuation line: `open_text` says whether the lines so far leave a
 /// paragraph open (5.1 Block quotes, 5.2 List items).
 #[inline(always)]
-pub(crate) fn if_lazy<'a>(rules: Rules, line: &View<'a>, open_text: bool) -> Option<View<'a>>
-    ensures line { option_map seen_view result
+pub(crate) fn can_be_lazy(rules: Rules, line: &View<'_>, open_text: bool) -> bool
+    ensures { given result (as_lazy (seen_view line.now))
         ≡ goes_inward (continuation_if_lazy rules (seen_view line.now)) open_text }
-    ensures lazy { IfSome result (λ inner. inner.lazy ≡ true) }
 {
     if !open_text {
-        return None;
+        return false;
     }
     if let Some(_) = plain_marker(line) {
-        return None;
+        return false;
     }
     if is_blank(line) {
-        return None;
+        return false;
     }
-    lazily(rules, line)
+    begins_lazily(rules, *line)
 }
 
 /// The same, while a paragraph is open, for a line that isn't blank.
 #[inline(never)]
-fn lazily<'a>(rules: Rules, line: &View<'a>) -> Option<View<'a>>
-    requires { is_blank (seen_view line.now) ≡ false }
-    ensures line { option_map seen_view result
-        ≡ goes_inward (continuation_if_lazy rules (seen_view line.now)) true }
-    ensures lazy { IfSome result (λ inner. inner.lazy ≡ true) }
+fn begins_lazily(rules: Rules, line: View<'_>) -> bool
+    requires { is_blank (seen_view line) ≡ false }
+    ensures { given result (as_lazy (seen_view line.entry))
+        ≡ goes_inward (continuation_if_lazy rules (seen_view line.entry)) true }
 {
-    if !may_be_lazy(&start_of(rules, line)) {
-        return None;
-    }
-    Some(View {
-        column: line.column,
-        spaces: line.spaces,
-        rest: line.rest,
-        lazy: true,
-    })
+    may_be_lazy(&start_of(rules, &line))
 }
 
 /// The line after the marker of a quote at its start, and after one column of space if there is one
@@ -107,18 +99,17 @@ pub(crate) fn quote_content<'a>(line: &View<'a>) -> Option<View<'a>>
         (λ inner. (start_of by (seen_view line.now) ≡ QuoteMarker)
         × (seen_view inner ≡ behind_quote_marker (seen_view line.now))) }
 {
+    if quote_marker(content(line), 0).is_none() {
+        return None;
+    }
     if line.lazy {
         return None;
     }
-    let indent = line.indent();
+    let indent = indent_of(line);
     if indent >= 4 {
         return None;
     }
-    let content = line.strip(indent);
-    if quote_marker(content.rest, 0).is_none() {
-        return None;
-    }
-    Some(content.past(1).strip(1))
+    Some(line.strip(indent).past(1).strip(1))
 }
 
 /// Whether a line ends an item with only its marker: it is blank.

@@ -4,7 +4,7 @@ ghost use Rattle.cm_block.specs.Prelude.{seen_view, underline_of, closes_fence, 
 ghost use Rattle.cm_block.specs.steps.ContinuationViews.{may_close_fence};
 
 use crate::counted_line::starts::{
-    begins_plain, begins_with_four_spaces, begins_with_letter, content,
+    begins_plain, begins_with_four_spaces, begins_with_letter, content, indent_of,
 };
 use crate::open_leaf::ends_at_blank_line;
 use cm_scan::{FenceKind, HtmlKind, fence_end, html_end, is_next, underline};
@@ -21,7 +21,7 @@ pub(crate) fn underline_of(line: &View<'_>) -> Option<u8>
     if begins_with_letter(line) {
         return None;
     }
-    if line.indent() > 3 {
+    if indent_of(line) > 3 {
         return None;
     }
     let (level, _) = underline(content(line), 0)?;

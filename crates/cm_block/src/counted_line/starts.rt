@@ -2,7 +2,7 @@
 ghost use Rattle.std.specs.Prelude.{◌≡◌, ◌==◌, ◌&&◌, false, true, nat_le};
 ghost use Rattle.std.specs.Str.{IsCharBoundary};
 ghost use Rattle.cm_text.specs.TextLines.{is_text_behind};
-ghost use Rattle.cm_block.specs.Prelude.{strip_columns, run_length};
+ghost use Rattle.cm_block.specs.Prelude.{indent_of, strip_columns, run_length};
 ghost use Rattle.cm_block.specs.Prelude.{is_line, seen_view, is_at_letter, content_of, given};
 ghost use Rattle.cm_block.specs.Prelude.{◌<|>◌, is_thematic_break, atx_heading, opening_fence};
 ghost use Rattle.cm_block.specs.Prelude.{item_marker, html_start, HtmlStart, BreakLine};
@@ -172,6 +172,7 @@ fn break_or_item(text: &str) -> Start<'_>
 
 /// The first start that matches with these rules, with up to 3 columns of indentation. The first byte
 /// excludes most.
+#[inline(never)]
 fn start_of_content(rules: Rules, text: &str) -> Start<'_>
     ensures { seen result ≡ start_of_content rules text.now }
 {
@@ -194,6 +195,17 @@ fn start_of_content(rules: Rules, text: &str) -> Start<'_>
     }
 }
 
+/// The columns of a line's indentation. Mostly they are spaces that were counted.
+#[inline(always)]
+pub(crate) fn indent_of(line: &View<'_>) -> usize
+    ensures { result ≡ indent_of (seen_view line.now) }
+{
+    if begins_plain(line.rest) {
+        return line.spaces;
+    }
+    line.indent()
+}
+
 /// What a line that isn't lazy starts: four columns of indentation make code.
 #[inline(never)]
 fn start_behind_indentation<'a>(rules: Rules, line: &View<'a>) -> Start<'a>
@@ -207,7 +219,7 @@ fn start_behind_indentation<'a>(rules: Rules, line: &View<'a>) -> Start<'a>
     start_of_content(rules, line.strip(indent).rest)
 }
 
-/// What a line starts. A lazy continuation line is text, and so is one that starts with a letter, as most do.
+/// What a line starts. A lazy continuation line is text.
 #[inline(always)]
 pub(crate) fn start_of<'a>(rules: Rules, line: &View<'a>) -> Start<'a>
     ensures { seen result ≡ start_of rules (seen_view line.now) }
@@ -215,8 +227,8 @@ pub(crate) fn start_of<'a>(rules: Rules, line: &View<'a>) -> Start<'a>
     if line.lazy {
         return Start::TextLine;
     }
-    if begins_with_letter(line) {
-        return Start::TextLine;
+    if line.spaces <= 3 && begins_plain(line.rest) {
+        return start_of_content(rules, line.rest);
     }
     start_behind_indentation(rules, line)
 }
