@@ -99,14 +99,14 @@ pub(crate) fn quote_content<'a>(line: &View<'a>) -> Option<View<'a>>
         (λ inner. (start_of by (seen_view line.now) ≡ QuoteMarker)
         × (seen_view inner ≡ behind_quote_marker (seen_view line.now))) }
 {
-    if quote_marker(content(line), 0).is_none() {
-        return None;
-    }
     if line.lazy {
         return None;
     }
     let indent = indent_of(line);
     if indent >= 4 {
+        return None;
+    }
+    if quote_marker(content(line), 0).is_none() {
         return None;
     }
     Some(line.strip(indent).past(1).strip(1))
