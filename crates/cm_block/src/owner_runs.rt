@@ -1,8 +1,8 @@
 //! The owner of each line, kept in runs: consecutive lines with the same owner are one run.
 //!
 //! A run takes 4 bytes, because it says whether it has one more leaf, the last one or none, and holds no
-//! number. It has fewer than 2^16 lines, so 2^28 line feeds take 4,097 runs. Each leaf starts a run, so neither
-//! the lines, counted in a `u128`, nor the leaves, counted in a `usize`, can overflow.
+//! number. It has fewer than 2^16 lines, so 2^28 line feeds take 4,097 runs. Each leaf starts a run, so
+//! neither the lines, counted in a `u128`, nor the leaves, counted in a `usize`, can overflow.
 //!
 //! Runs are kept even if no caller asks for owners, so that each contract has one form. Without them an
 //! unproved program took 0.5 to 1.5 percent fewer instructions.

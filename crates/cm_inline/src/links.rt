@@ -178,8 +178,8 @@ fn reference_end(
 /// The most bytes of a label whose characters needn't be counted.
 const FEW: usize = 999;
 
-/// The end of a collapsed reference or a shortcut, whose label is between the brackets. Mostly that is its own
-/// folded form, which is a label if it is short.
+/// The end of a collapsed reference or a shortcut, whose label is between the brackets. Most are their own
+/// folded form, and then a label if they are short.
 fn reference_between(
     rules: Rules,
     leaf: Leaf<'_>,

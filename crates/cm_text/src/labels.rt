@@ -57,7 +57,8 @@ pub fn label_number(label: &str) -> u64
 }
 
 /// The number of a label that is its own folded form, as most labels are: characters that case folding keeps,
-/// except brackets and backslashes, with single spaces between them. None for any other label.
+/// with single spaces between them. None for any other label, and for one with a bracket, a backslash or an
+/// ASCII control character.
 #[tactic(auto, unfolding(crate::specs::steps::LabelNumbers::number_of))]
 pub fn plain_label_number(label: &str) -> Option<u64>
     ensures number { IfSome result (λ number. number ≡ number_of label.now) }

@@ -56,8 +56,8 @@ pub fn unescape_or_lend(alloc: Global, text: &str) -> Result<CowStr<'_, Global>,
     }
 }
 
-/// The first place of a backslash or an ampersand. Most destinations and titles are so short that a loop costs
-/// less than a call of `memchr2`.
+/// The first place of a backslash or an ampersand. Most destinations and titles are so short that a loop
+/// costs less than a call of `memchr2`.
 #[inline(always)]
 fn first_special(text: &[u8]) -> Option<usize>
     ensures { IsFirstByte (is_byte2 92 38) text.now result }

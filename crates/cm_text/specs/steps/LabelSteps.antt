@@ -43,7 +43,7 @@ is_plain behind_space (b ∷ bs) = elim (is_plain_byte b || nat_le 128 b) [ true
 abbrev pub is_all_ascii : List ℕ → Bool
 is_all_ascii = list_all (λ b. nat_lt b 128)
 
--- Whether a label is told to be its own folded form. ASCII without capitals keeps its case.
+-- Whether a label counts as its own folded form. ASCII without capitals keeps its case.
 abbrev pub is_own_fold : List ℕ → Bool
 is_own_fold label = is_plain true label && (is_all_ascii label || list_all is_kept (chars label))
 
