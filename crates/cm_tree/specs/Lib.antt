@@ -8,6 +8,5 @@ pub mod Definitions
 pub mod RawHtml
 pub mod RawBlocks
 pub mod RawTrees
-pub mod TargetPlaces
 pub mod WorkedExamples
 pub mod steps

@@ -40,7 +40,7 @@ block_in raw raw_block.Break = trees.Break
 block_in raw (raw_block.Definition label dest title to) =
     trees.Definition (slice_range raw.text label dest) (slice_range raw.text dest title) (slice_range raw.text title to)
 block_in raw (raw_block.Quote from to) = trees.Quote (slice_range raw.blocks from to)
-block_in raw (raw_block.List kind tight from to) = trees.List kind tight (slice_range raw.items from to)
+block_in raw (raw_block.List tight kind from to) = trees.List kind tight (slice_range raw.items from to)
 
 -- the same of several blocks
 abbrev pub blocks_in : Raw → List RawBlock → List Block
@@ -71,7 +71,7 @@ IsPlaced raw (raw_block.Html from to) = IsBetween raw.text from to
 IsPlaced raw raw_block.Break = ⊤
 IsPlaced raw (raw_block.Definition label dest title to) = IsBetween raw.text label dest × IsBetween raw.text dest title × IsBetween raw.text title to
 IsPlaced raw (raw_block.Quote from to) = IsRange (length raw.blocks) from to
-IsPlaced raw (raw_block.List kind tight from to) = IsRange (length raw.items) from to
+IsPlaced raw (raw_block.List tight kind from to) = IsRange (length raw.items) from to
 
 -- the same of several blocks
 abbrev pub ArePlaced : Raw → List RawBlock → Type 0

@@ -1,4 +1,5 @@
 pub mod ItemSteps
+pub mod KeptTexts
 pub mod LabelIndex
 pub mod RawSteps
 pub mod Entries

@@ -1,17 +1,17 @@
 //! The table of link reference definitions: an array in the order of the text, and an index by label.
 //!
-//! No step sorts it once all definitions are known, so a caller may add and find in turn. It is searched
-//! before a definition is copied, so a second definition of a label leaves nothing in it.
+//! No step sorts it once all definitions are known, so a caller may add and find in turn. A second definition
+//! of a label leaves nothing in it.
 ghost use Rattle.std.specs.Prelude.{◌≡◌, ◌<◌, ◌++◌, [], ◌∷◌, length};
-ghost use Rattle.std.specs.Prelude.{None, OnOk, OnErr, IfOk, IfSome, option_map, string_bytes};
+ghost use Rattle.std.specs.Prelude.{true, false, None, OnOk, OnErr, IfOk, IfSome, option_map, string_bytes};
 ghost use Rattle.cm_text.specs.Labels.{fold_label};
 ghost use Rattle.cm_tree.specs.Definitions.{target_under, target_numbered, add_first, target_if_followed};
 ghost use Rattle.cm_tree.specs.LinkTargets.{led_to};
 ghost use Rattle.cm_text.specs.steps.LabelNumbers.{number_of};
-ghost use Rattle.cm_tree.specs.steps.LabelIndex.{GoesIn, IsSame};
+ghost use Rattle.cm_tree.specs.steps.LabelIndex.{hash_of, GoesIn, IsSame, IsThere};
 
-use crate::entries::{Entry, entry_under, indexed};
-use crate::label_index::LabelIndex;
+use crate::entries::{Entry, entry_under, in_slots, indexed};
+use crate::label_index::{LabelIndex, hash_of};
 use crate::link_target::LinkTarget;
 use cm_text::{NoMemory, Rules, fold_label, label_number, plain_label_number};
 use std::alloc::{AllocError, Global};
@@ -75,7 +75,6 @@ impl Definitions {
         Ok(self.add_folded(label_number(&folded), &folded, dest, title)?)
     }
 
-    #[tactic(auto, using(crate::proofs::lemmas::TargetLemmas::any_target))]
     fn add_folded(
         &mut self,
         number: u64,
@@ -87,17 +86,22 @@ impl Definitions {
         ensures ok { OnOk result (self.new ≡ add_first self.old label.now (dest.now, title.now)) }
         ensures err { OnErr result (self.new ≡ self.old) }
     {
-        if self
-            .entry_by_folded(Rules::profile(), number, label)
-            .is_some()
-        {
+        self.make_room()?;
+        let hash = hash_of(number);
+        let there = in_slots(&self.texts, &self.entries, &self.index.slots, hash, label);
+        if there.is_some() {
             return Ok(());
         }
-        self.make_room()?;
-        self.add_new(number, label, dest, title)
+        let from = self.texts.len();
+        let entry = Entry::copy(self.alloc, &mut self.texts, hash, label, dest, title)?;
+        let added = put(self.alloc, &mut self.entries, &mut self.index, label, entry)?;
+        if !added {
+            self.texts.truncate(from);
+        }
+        Ok(())
     }
 
-    /// Keeps at least four slots for each entry in a slot.
+    /// Keeps at least four slots for each entry in a slot, and one more.
     fn make_room(&mut self) -> Result<(), AllocError>
         ensures { self.new ≡ self.old }
     {
@@ -106,29 +110,6 @@ impl Definitions {
             self.index = indexed(self.alloc, &self.texts, &self.entries, slots)?;
         }
         Ok(())
-    }
-
-    fn add_new(
-        &mut self,
-        number: u64,
-        label: &str,
-        dest: &str,
-        title: &str,
-    ) -> Result<(), AllocError>
-        requires number { number ≡ number_of label.now }
-        requires absent { target_under label.now self.old ≡ None }
-        ensures ok { OnOk result (self.new ≡ self.old ++ (label.now, (dest.now, title.now)) ∷ []) }
-        ensures err { OnErr result (self.new ≡ self.old) }
-    {
-        let entry = Entry::copy(self.alloc, &mut self.texts, number, label, dest, title)?;
-        put(
-            self.alloc,
-            &mut self.entries,
-            &mut self.index,
-            number,
-            label,
-            entry,
-        )
     }
 
     /// The destination and the title of the first definition that was added with a matching label, or None if
@@ -188,7 +169,7 @@ impl Definitions {
         requires { entry < length self.now }
         ensures { led_to result ≡ target_numbered self.now entry }
     {
-        self.entries[entry].target.lend(&self.texts)
+        self.entries[entry].texts.target(&self.texts)
     }
 
     /// As `entry_by`, for a label in its folded form, given with the label's number
@@ -200,7 +181,8 @@ impl Definitions {
             ≡ target_if_followed rules (target_under label.now self.now) }
         ensures within { IfSome result (λ entry. entry < length self.now) }
     {
-        let entry = entry_under(&self.texts, &self.entries, &self.index, number, label)?;
+        let hash = hash_of(number);
+        let entry = entry_under(&self.texts, &self.entries, &self.index, hash, label)?;
         if self.entries[entry].is_followed(rules) {
             return Some(entry);
         }
@@ -208,25 +190,29 @@ impl Definitions {
     }
 }
 
-/// Appends an entry to the others, and adds it to the index.
+/// Appends an entry to the others, and adds it to the index, unless its label, which no slot has, is in the
+/// tree. Returns whether it is added.
 fn put(
     alloc: Global,
     entries: &mut Vec<Entry>,
     index: &mut LabelIndex,
-    number: u64,
     label: &str,
     entry: Entry,
-) -> Result<(), AllocError>
-    requires { number ≡ number_of label.now }
-    ensures entries { OnOk result (entries.new.items ≡ entries.old.items ++ entry ∷ []) }
-    ensures index { OnOk result (GoesIn index.old index.new label.now (length entries.old.items)) }
+) -> Result<bool, AllocError>
+    requires { entry.hash ≡ hash_of label.now }
+    ensures entries { IfOk result (λ added. added ≡ true → entries.new.items ≡ entries.old.items ++ entry ∷ []) }
+    ensures index { IfOk result (λ added. added ≡ true
+        → GoesIn index.old index.new label.now (length entries.old.items)) }
+    ensures same { IfOk result (λ added. added ≡ false → entries.new.items ≡ entries.old.items) }
+    ensures there { IfOk result (λ added. added ≡ false → IsThere index.old index.new label.now) }
     ensures err { OnErr result ((entries.new.items ≡ entries.old.items) × IsSame index.old index.new) }
 {
     let place = entries.len();
+    let hash = entry.hash;
     entries.push(entry)?;
-    if let Err(refused) = index.put(alloc, number, label, place) {
+    let added = index.put(alloc, hash, label, place);
+    if !matches!(added, Ok(true)) {
         entries.pop();
-        return Err(refused);
     }
-    Ok(())
+    added
 }

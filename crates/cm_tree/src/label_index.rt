@@ -4,9 +4,10 @@
 //! take quadratic time; two such labels of 512 characters were found at once. Here a search looks at eight
 //! slots, and then descends a tree ordered by label. If there would be fewer than four slots for each entry
 //! in one, their number is doubled and the index made anew, while the entries stay where they are.
-ghost use Rattle.std.specs.Prelude.{◌≡◌, ◌≤◌, [], length, IfOk, IfSome, OnOk, OnErr};
-ghost use Rattle.cm_text.specs.steps.LabelNumbers.{number_of};
-ghost use Rattle.cm_tree.specs.steps.LabelIndex.{home, IsFree, IsIndex, IsSame, GoesIn};
+ghost use Rattle.std.specs.Prelude.{◌≡◌, ◌≤◌, ◌/◌, ◌^◌, [], length, true, false};
+ghost use Rattle.std.specs.Prelude.{None, IfOk, IfSome, IsSome, OnOk, OnErr};
+ghost use Rattle.cm_tree.specs.steps.LabelIndex.{hash_of, home, crowded, IsFree, IsFull, IsIndex, IsSame};
+ghost use Rattle.cm_tree.specs.steps.LabelIndex.{GoesIn, IsPutInTree, IsThere};
 
 use std::alloc::{AllocError, Global};
 use std::collections::BTreeMap;
@@ -63,7 +64,8 @@ impl LabelIndex {
             .max(2 * NEAR - 1)
     }
 
-    /// Adds an entry under a label that isn't there.
+    /// Adds an entry under a label, of this hash, that no slot has: to a free slot, or to the tree unless the
+    /// label is there. Returns whether it is added.
     ///
     /// # Errors
     ///
@@ -71,39 +73,71 @@ impl LabelIndex {
     pub(crate) fn put(
         &mut self,
         alloc: Global,
-        number: u64,
+        hash: u32,
         label: &str,
         entry: usize,
-    ) -> Result<(), AllocError>
-        requires { number ≡ number_of label.now }
-        ensures ok { OnOk result (GoesIn self.old self.new label.now entry) }
+    ) -> Result<bool, AllocError>
+        requires { hash ≡ hash_of label.now }
+        ensures added { IfOk result (λ added. added ≡ true → GoesIn self.old self.new label.now entry) }
+        ensures there { IfOk result (λ added. added ≡ false → IsThere self.old self.new label.now) }
         ensures err { OnErr result (IsSame self.old self.new) }
     {
         if entry < u32::MAX as usize {
-            if let Some(slot) = free_slot(&self.slots, number) {
+            if let Some(slot) = free_slot(&self.slots, hash) {
                 self.slots[slot] = entry as u32 + 1;
-                return Ok(());
+                return Ok(true);
             }
         }
-        let label = String::from_str(alloc, label)?;
-        self.crowded.insert(label, entry)?;
-        Ok(())
+        self.put_in_tree(alloc, label, entry)
+    }
+
+    /// Adds an entry under a label to the tree, unless the label is there. Returns whether it is added. The
+    /// tree is descended once for a label that isn't there.
+    ///
+    /// # Errors
+    ///
+    /// As `put`.
+    fn put_in_tree(&mut self, alloc: Global, label: &str, entry: usize) -> Result<bool, AllocError>
+        ensures slots { self.new.slots.items ≡ self.old.slots.items }
+        ensures added { IfOk result (λ added. added ≡ true
+            → IsPutInTree self.old self.new label.now entry) }
+        ensures there { IfOk result (λ added. added ≡ false → IsThere self.old self.new label.now) }
+        ensures err { OnErr result (IsSame self.old self.new) }
+    {
+        let key = String::from_str(alloc, label)?;
+        let again = String::from_str(alloc, label)?;
+        match self.crowded.insert(key, entry)? {
+            None => Ok(true),
+            Some(first) => {
+                self.crowded.insert(again, first)?;
+                Ok(false)
+            }
+        }
     }
 }
 
-/// The first of the slots for labels of a number.
-pub(crate) fn home(slots: &[u32], number: u64) -> usize
-    ensures is { result ≡ home slots.now number }
-    ensures within { result ≤ length slots.now }
+/// The upper half of a label's number, by which the index finds it.
+#[inline(always)]
+pub(crate) fn hash_of(number: u64) -> u32
+    ensures { result ≡ number / 2 ^ 32 }
 {
-    (number >> 32) as usize & slots.len().saturating_sub(NEAR)
+    (number >> 32) as u32
 }
 
-/// The first free slot for a label of a number.
-fn free_slot(slots: &[u32], number: u64) -> Option<usize>
-    ensures { IfSome result (λ slot. IsFree slots.now (home slots.now number) slot) }
+/// The first of the slots for labels of a hash.
+pub(crate) fn home(slots: &[u32], hash: u32) -> usize
+    ensures is { result ≡ home slots.now hash }
+    ensures within { result ≤ length slots.now }
 {
-    let from = home(slots, number);
+    hash as usize & slots.len().saturating_sub(NEAR)
+}
+
+/// The first free slot for a label of a hash.
+fn free_slot(slots: &[u32], hash: u32) -> Option<usize>
+    ensures some { IfSome result (λ slot. IsFree slots.now (home slots.now hash) slot) }
+    ensures none { result ≡ None → IsFull slots.now (home slots.now hash) }
+{
+    let from = home(slots, hash);
     for slot in from..from + NEAR {
         match slots.get(slot) {
             Some(0) => return Some(slot),

@@ -4,8 +4,8 @@
 //!
 //! Start with [`Doc`]: its blocks are the tree, its owners say what each line belongs to. The nodes are
 //! [`Block`] and [`Inline`]. [`block_depth`], [`inline_depth`] and [`has_raw_html`] examine a tree, and
-//! [`Definitions`] is the table of link reference definitions. [`RawTree`] with what it is made of and
-//! [`TargetPlaces`] are what the crates above use.
+//! [`Definitions`] is the table of link reference definitions. [`RawTree`] with what it is made of is
+//! what the crates above use.
 //!
 //! A tree is made of plain enums over [`Items`], [`Text`] and [`BoxedText`]. Contracts
 //! see the first, a `Vec`, as a list. They see the others, a `String` and a text on the
@@ -62,13 +62,13 @@ mod definitions;
 mod depth;
 mod entries;
 mod items;
+mod kept_texts;
 mod label_index;
 pub mod laws;
 mod link_target;
 mod raw_blocks;
 mod raw_html;
 mod raw_tree;
-mod target_places;
 mod text;
 mod tree;
 
@@ -76,10 +76,9 @@ pub use boxed_text::BoxedText;
 pub use definitions::Definitions;
 pub use depth::{block_depth, inline_depth};
 pub use items::Items;
-pub use link_target::{KeptTarget, LinkTarget};
+pub use link_target::LinkTarget;
 pub use raw_blocks::{RawBlock, RawBlocks, RawFault, RawItem};
 pub use raw_html::has_raw_html;
 pub use raw_tree::{RawChunk, RawTree};
-pub use target_places::TargetPlaces;
 pub use text::Text;
 pub use tree::{Block, Doc, Inline, ListKind, Owner};

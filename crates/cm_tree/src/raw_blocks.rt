@@ -69,8 +69,9 @@ pub enum RawBlock {
     },
     /// A list, and the places of its items.
     List {
-        kind: ListKind,
+        /// It comes first because it shares a word with the variant's tag there.
         tight: bool,
+        kind: ListKind,
         from: u32,
         to: u32,
     },

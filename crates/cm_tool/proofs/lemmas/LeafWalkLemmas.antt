@@ -140,7 +140,7 @@ module _ (unread : Unread) (block : RawBlock) where
       ap (λ b. depths_in (block_read_of unread b)) is
       ∙ quote_depths unread.limits.rules (defined_in unread.definitions) (slice_range unread.raw.blocks from to)
 
-  pub list_leaves : (kind : ListKind) (tight : Bool) (from to : ℕ) → block ≡ raw_block.List kind tight from to
+  pub list_leaves : (kind : ListKind) (tight : Bool) (from to : ℕ) → block ≡ raw_block.List tight kind from to
       → depths_in (block_read_of unread block) ≡ items_leaf_depths (items_read_at unread from to)
   list_leaves kind tight from to is =
       ap (λ b. depths_in (block_read_of unread b)) is

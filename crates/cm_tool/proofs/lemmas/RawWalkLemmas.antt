@@ -141,7 +141,7 @@ module _ (rules : Rules) (defined : Defined) where
   whole_written raw raw_block.Break no_paragraph no_definition = (_, break_written)
   whole_written raw (raw_block.Definition label dest title to) no_paragraph no_definition = absurd (no_definition label dest title to refl)
   whole_written raw (raw_block.Quote from to) no_paragraph no_definition = (_, quote_written (slice_range raw.blocks from to))
-  whole_written raw (raw_block.List kind tight from to) no_paragraph no_definition = (_, list_written kind tight (slice_range raw.items from to))
+  whole_written raw (raw_block.List tight kind from to) no_paragraph no_definition = (_, list_written kind tight (slice_range raw.items from to))
 
   -- ---- one leaf
 

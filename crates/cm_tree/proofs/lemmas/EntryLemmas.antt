@@ -1,25 +1,18 @@
 -- The entries of the table of definitions: what their labels stand for, and one entry more.
-use Rattle.std.proofs.Common.{◌≡◌, ℕ, zero, suc, ◌<◌, List, [], ◌∷◌, ◌++◌, length, get_or, Some, None, Result, Ok, Err, OnOk, OnErr, Bool, true, false, cond, ◌||◌, refl, sym, ap, subst, ◌∙◌, arith, append_assoc}
-use Rattle.std.specs.Str.{IsUtf8}
+use Rattle.std.proofs.Common.{◌≡◌, ℕ, zero, suc, ◌<◌, List, [], ◌∷◌, ◌++◌, length, get_or, Option, Some, None, is_some, IfSome, Result, Ok, Err, OnErr, Bool, true, false, cond, ◌||◌, refl, sym, ap, subst, ◌∙◌, arith}
 use Rattle.std.proofs.lemmas.Bool.{false_from_ne_true, cond-true, cond-false}
 use Rattle.std.proofs.lemmas.List.{get_or-map, length-map, map-append}
 use Rattle.std.proofs.lemmas.Slice.Eq.{bytes_eq-Decides}
-use Rattle.std.proofs.lemmas.Str.{IsUtf8-append}
 use Rattle.cm_text.specs.Rules.{Rules}
 use Rattle.cm_text.specs.Addresses.{is_web_address, is_followed}
 use Rattle.cm_tree.specs.declared.entries.Entry.{Entry}
 use Rattle.cm_tree.specs.declared.label_index.LabelIndex.{LabelIndex}
-use Rattle.cm_tree.specs.Definitions.{Target, Targets, target_under, target_numbered, target_if_followed}
-use Rattle.cm_tree.specs.LinkTargets.{kept_in, Keeps}
-use Rattle.cm_tree.specs.RawBlocks.{IsBetween}
-use Rattle.cm_tree.specs.TargetPlaces.{GoesOn}
-use Rattle.cm_text.specs.steps.LabelNumbers.{number_of}
-use Rattle.cm_tree.specs.steps.LabelIndex.{IsLabel, IsIndex, AreDistinct, IsNew, GoesIn, IsSame}
+use Rattle.cm_tree.specs.Definitions.{Target, Targets, target_under, target_numbered, target_if_followed, add_first}
+use Rattle.cm_tree.specs.steps.KeptTexts.{kept_target, Keeps, GoesOn}
+use Rattle.cm_tree.specs.steps.LabelIndex.{hash_of, home, crowded, IsLabel, IsIndex, AreDistinct, IsNew, IsPassed, GoesIn, IsSame, IsThere}
 use Rattle.cm_tree.specs.steps.Entries.{label_in, labels_in, entries_in, IsEntry, AreEntries, AreKept, IsMade}
-use Rattle.cm_tree.proofs.lemmas.RawLemmas.{slice-same, slice-last, between-behind}
-use Rattle.cm_tree.proofs.lemmas.TargetLemmas.{between-grows, goes-on}
-use Rattle.cm_tree.proofs.lemmas.KeptLemmas.{kept_in-same, is_kept-grows}
-use Rattle.cm_tree.proofs.lemmas.IndexLemmas.{put-index, same-index, distinct-more}
+use Rattle.cm_tree.proofs.lemmas.KeptLemmas.{label-same, target-same, kept-grows}
+use Rattle.cm_tree.proofs.lemmas.IndexLemmas.{put-index, same-index, distinct-more, goes-in-new, some-there}
 
 -- one of the entries
 
@@ -44,29 +37,21 @@ count text es = length-map es (label_in text)
 
 -- while the text grows
 
-pub goes-on-more : (old new newer : List ℕ) → GoesOn old new → GoesOn new newer → GoesOn old newer
-goes-on-more old new newer one two =
-    goes-on old (one.more ++ two.more) newer (two.is ∙ ap (λ t. t ++ two.more) one.is ∙ append_assoc old one.more two.more) (IsUtf8-append one.more two.more one.utf8 two.utf8)
-
-label-same : (old new : List ℕ) (e : Entry) → GoesOn old new → IsEntry old e → label_in new e ≡ label_in old e
-label-same old new e grows is = slice-same old grows.more new e.label e.end grows.is is.label.0 is.label.2.0
-
 entry-grows : (old new : List ℕ) (e : Entry) → GoesOn old new → IsEntry old e → IsEntry new e
 entry-grows old new e grows is = record {
-  label = between-grows old new e.label e.end grows is.label;
-  number = is.number ∙ ap number_of (sym (label-same old new e grows is));
-  target = is_kept-grows old new e.target grows is.target;
-  web = is.web ∙ ap (λ t. is_web_address t.0) (sym (kept_in-same old new e.target grows is.target));
+  kept = kept-grows old new e.texts grows is.kept;
+  hash = is.hash ∙ ap hash_of (sym (label-same old new e.texts grows is.kept));
+  web = is.web ∙ ap (λ t. is_web_address t.0) (sym (target-same old new e.texts grows is.kept));
 }
 
 pub labels-same : (old new : List ℕ) (es : List Entry) → GoesOn old new → AreEntries old es → labels_in new es ≡ labels_in old es
 labels-same old new [] grows are = refl
-labels-same old new (e ∷ es) grows are = λ i. label-same old new e grows are.0 i ∷ labels-same old new es grows are.1 i
+labels-same old new (e ∷ es) grows are = λ i. label-same old new e.texts grows are.0.kept i ∷ labels-same old new es grows are.1 i
 
 pub entries-same : (old new : List ℕ) (es : List Entry) → GoesOn old new → AreEntries old es → entries_in new es ≡ entries_in old es
 entries-same old new [] grows are = refl
 entries-same old new (e ∷ es) grows are =
-    λ i. (label-same old new e grows are.0 i, kept_in-same old new e.target grows are.0.target i) ∷ entries-same old new es grows are.1 i
+    λ i. (label-same old new e.texts grows are.0.kept i, target-same old new e.texts grows are.0.kept i) ∷ entries-same old new es grows are.1 i
 
 pub entries-grow : (old new : List ℕ) (es : List Entry) → GoesOn old new → AreEntries old es → AreEntries new es
 entries-grow old new [] grows are = tt
@@ -79,18 +64,15 @@ kept-grow old new es index grows are = record {
   found = subst (IsIndex index) (sym (labels-same old new es grows are.there)) are.found;
 }
 
--- texts after the others, of which the first is a label
+-- an entry of texts that are kept
 
-pub made : (old label new : List ℕ) (more : List ℕ) (e : Entry) (target : Target) → more ≡ old ++ label → IsUtf8 label → GoesOn more new → e.label ≡ length old → e.end ≡ length more
-    → e.number ≡ number_of label → Keeps new e.target target → e.is_web ≡ is_web_address target.0 → IsMade new e label target
-made old label new more e target is utf8 grows from to number keeps web =
-    let there : IsBetween more e.label e.end = between-behind old label more e.label e.end is utf8 from to in
-    let same : label_in new e ≡ label = slice-same more grows.more new e.label e.end grows.is there.0 there.2.0 ∙ slice-last old label more e.label e.end is from to in
-    record {
-      there = record { label = between-grows more new e.label e.end grows there; number = number ∙ ap number_of (sym same); target = keeps.there; web = web ∙ ap (λ t. is_web_address t.0) (sym keeps.is) };
-      is_label = same;
-      is_target = keeps.is;
-    }
+pub made : (text : List ℕ) (e : Entry) (label : List ℕ) (target : Target) → Keeps text e.texts label target → e.hash ≡ hash_of label → e.is_web ≡ is_web_address target.0
+    → IsMade text e label target
+made text e label target keeps hash web = record {
+  there = record { kept = keeps.there; hash = hash ∙ ap hash_of (sym keeps.is_label); web = web ∙ ap (λ t. is_web_address t.0) (sym keeps.is_target) };
+  is_label = keeps.is_label;
+  is_target = keeps.is_target;
+}
 
 -- what a label has
 
@@ -101,7 +83,7 @@ reads-new text (e ∷ es) label new =
     ∙ reads-new text es label (λ i within. new (suc i) (omega arith))
 
 reads-label : (text : List ℕ) (es : List Entry) (i : ℕ) (d : Entry) (label : List ℕ) → AreDistinct (labels_in text es) → IsLabel (labels_in text es) i label
-    → target_under label (entries_in text es) ≡ Some (kept_in text (get_or es i d).target)
+    → target_under label (entries_in text es) ≡ Some (kept_target text (get_or es i d).texts)
 reads-label text [] i d label distinct is = absurd (let w = is.0 in omega arith)
 reads-label text (e ∷ es) zero d label distinct is = cond-true _ _ _ ((bytes_eq-Decides (label_in text e) label).1 is.1)
 reads-label text (e ∷ es) (suc i) d label distinct is = let w = is.0 in
@@ -116,21 +98,21 @@ if-asked false target = refl
 
 module _ (text : List ℕ) (es : List Entry) (value : Targets) (is : entries_in text es ≡ value) where
   pub count-value : length value ≡ length es
-  count-value = ap length (sym is) ∙ length-map es (λ d. (label_in text d, kept_in text d.target))
+  count-value = ap length (sym is) ∙ length-map es (λ d. (label_in text d, kept_target text d.texts))
 
   pub has-none : (label : List ℕ) → IsNew (labels_in text es) label → target_under label value ≡ None
   has-none label new = ap (target_under label) (sym is) ∙ reads-new text es label new
 
-  pub has-numbered : (i : ℕ) (e : Entry) → i < length es → e ≡ get_or es i e → target_numbered value i ≡ kept_in text e.target
+  pub has-numbered : (i : ℕ) (e : Entry) → i < length es → e ≡ get_or es i e → target_numbered value i ≡ kept_target text e.texts
   has-numbered i e within read =
       ap (λ v. target_numbered v i) (sym is)
-      ∙ ap (λ (d : List ℕ × Target). d.1) (get_or-map (λ d. (label_in text d, kept_in text d.target)) es i e ([], ([], [])) within)
-      ∙ ap (λ d. kept_in text d.target) (sym read)
+      ∙ ap (λ (d : List ℕ × Target). d.1) (get_or-map (λ d. (label_in text d, kept_target text d.texts)) es i e ([], ([], [])) within)
+      ∙ ap (λ d. kept_target text d.texts) (sym read)
 
   pub has-under : (i : ℕ) (e : Entry) (label : List ℕ) → AreDistinct (labels_in text es) → IsLabel (labels_in text es) i label → e ≡ get_or es i e
-      → target_under label value ≡ Some (kept_in text e.target)
+      → target_under label value ≡ Some (kept_target text e.texts)
   has-under i e label distinct there read =
-      ap (target_under label) (sym is) ∙ reads-label text es i e label distinct there ∙ ap (λ d. Some (kept_in text d.target)) (sym read)
+      ap (target_under label) (sym is) ∙ reads-label text es i e label distinct there ∙ ap (λ d. Some (kept_target text d.texts)) (sym read)
 
   -- if the rules follow its address, as the entry has it
   pub has-followed : (i : ℕ) (e : Entry) (label : List ℕ) (rules : Rules) (followed : Bool) → AreEntries text es → AreDistinct (labels_in text es) → IsLabel (labels_in text es) i label
@@ -140,9 +122,9 @@ module _ (text : List ℕ) (es : List Entry) (value : Targets) (is : entries_in 
       let within : i < length es = let w = there.0 in omega arith in
       let web = (read-entry text es i e are within read).web in
       ap (target_if_followed rules) (has-under i e label distinct there read)
-      ∙ if-asked (is_followed rules (kept_in text e.target).0) (kept_in text e.target)
-      ∙ ap (λ w. cond (rules.any_address || w) (Some (kept_in text e.target)) None) (sym web)
-      ∙ ap (λ b. cond b (Some (kept_in text e.target)) None) (sym asked)
+      ∙ if-asked (is_followed rules (kept_target text e.texts).0) (kept_target text e.texts)
+      ∙ ap (λ w. cond (rules.any_address || w) (Some (kept_target text e.texts)) None) (sym web)
+      ∙ ap (λ b. cond b (Some (kept_target text e.texts)) None) (sym asked)
       ∙ ap (λ target. cond followed (Some target) None) (sym (has-numbered i e within read))
 
 -- the text has grown, and nothing else has changed
@@ -155,22 +137,56 @@ pub on-err : (E : Type 0) {P : Type 0} (told : Result (Unit {0}) E) → P → On
 on-err E (Ok u) p = tt
 on-err E (Err f) p = p
 
--- one entry more, where its label isn't there
+-- what a search in the slots found, given the text, the entries and the slots that were lent to it
 
-not-there : (text : List ℕ) (es : List Entry) (label : List ℕ) → AreDistinct (labels_in text es) → target_under label (entries_in text es) ≡ None → IsNew (labels_in text es) label
-not-there text (e ∷ es) label distinct none i within same =
-    let wrong : Some (kept_in text (get_or (e ∷ es) i e).target) ≡ None = sym (reads-label text (e ∷ es) i e label distinct (within, same)) ∙ none in cc
-not-there text [] label distinct none i within same = absurd (omega arith)
+module _ (text lent_text : List ℕ) (es lent_es : List Entry) (label : List ℕ) (found : Option ℕ) (same_text : lent_text ≡ text) (same_es : lent_es ≡ es) where
+  labels : labels_in lent_text lent_es ≡ labels_in text es
+  labels = ap (λ t. labels_in t lent_es) same_text ∙ ap (labels_in text) same_es
+
+  pub met : IfSome found (λ entry. IsLabel (labels_in lent_text lent_es) entry label) → IfSome found (λ entry. IsLabel (labels_in text es) entry label)
+  met there = subst (λ ls. IfSome found (λ entry. IsLabel ls entry label)) labels there
+
+  pub passed : (slots lent_slots : List ℕ) (hash : ℕ) → lent_slots ≡ slots → hash ≡ hash_of label → is_some found ≡ false
+      → (found ≡ None → IsPassed lent_slots (home lent_slots hash) (labels_in lent_text lent_es) label) → IsPassed slots (home slots (hash_of label)) (labels_in text es) label
+  passed slots lent_slots hash same_slots hashed missed absent =
+      subst (λ ls. IsPassed slots (home slots (hash_of label)) ls label) labels
+      (subst (λ ss. IsPassed ss (home ss (hash_of label)) (labels_in lent_text lent_es) label) same_slots
+      (subst (λ h. IsPassed lent_slots (home lent_slots h) (labels_in lent_text lent_es) label) hashed (absent (none found missed))))
+    where
+      none : (found : Option ℕ) → is_some found ≡ false → found ≡ None
+      none None missed = refl
+      none (Some entry) missed = cc
+
+-- what adding changes
+
+module _ (text : List ℕ) (es : List Entry) (value : Targets) (is : entries_in text es ≡ value) (label : List ℕ) (target : Target) where
+  pub add-new : IsNew (labels_in text es) label → add_first value label target ≡ value ++ (label, target) ∷ []
+  add-new new = cond-false _ _ _ (ap is_some (has-none text es value is label new))
+
+  pub add-there : AreDistinct (labels_in text es) → (i : ℕ) → IsLabel (labels_in text es) i label → add_first value label target ≡ value
+  add-there distinct i there = cond-true _ _ _ (ap (λ v. is_some (target_under label v)) (sym is) ∙ reads-some text es i label distinct there)
+    where
+      reads-some : (text : List ℕ) (es : List Entry) (i : ℕ) (label : List ℕ) → AreDistinct (labels_in text es) → IsLabel (labels_in text es) i label
+          → is_some (target_under label (entries_in text es)) ≡ true
+      reads-some text [] i label distinct is = absurd (let w = is.0 in omega arith)
+      reads-some text (e ∷ es) i label distinct is = ap is_some (reads-label text (e ∷ es) i e label distinct is)
+
+  pub add-met : AreDistinct (labels_in text es) → (found : Option ℕ) → IfSome found (λ i. IsLabel (labels_in text es) i label) → is_some found ≡ true → add_first value label target ≡ value
+  add-met distinct (Some i) there some = add-there distinct i there
+  add-met distinct None there some = cc
+
+  pub add-crowded : (before after : LabelIndex) → AreKept text es before → IsThere before after label → add_first value label target ≡ value
+  add-crowded before after are there =
+      some-there before (labels_in text es) label (crowded before label) are.found refl there.there _ (λ entry it. add-there are.distinct entry it)
+
+-- one entry more, whose label isn't there
 
 module _ (text : List ℕ) (es now : List Entry) (e : Entry) (before after : LabelIndex) (label : List ℕ) (target : Target)
-    (are : AreKept text es before) (made : IsMade text e label target) (absent : target_under label (entries_in text es) ≡ None) (is : now ≡ es ++ e ∷ []) where
-  new : IsNew (labels_in text es) label
-  new = not-there text es label are.distinct absent
-
+    (are : AreKept text es before) (made : IsMade text e label target) (new : IsNew (labels_in text es) label) (is : now ≡ es ++ e ∷ []) where
   labels-now : labels_in text es ++ label ∷ [] ≡ labels_in text now
   labels-now = ap (λ l. labels_in text es ++ l ∷ []) (sym made.is_label) ∙ sym (ap (labels_in text) is ∙ map-append (label_in text) es (e ∷ []))
 
-  pub kept-more : GoesIn before after label (length es) → AreKept text now after
+  kept-more : GoesIn before after label (length es) → AreKept text now after
   kept-more put = record {
     there = subst (AreEntries text) (sym is) (all es are.there);
     distinct = subst AreDistinct labels-now (distinct-more (labels_in text es) label are.distinct new);
@@ -181,32 +197,40 @@ module _ (text : List ℕ) (es now : List Entry) (e : Entry) (before after : Lab
       all [] them = (made.there, tt)
       all (d ∷ ds) them = (them.0, all ds them.1)
 
-  pub entries-more : entries_in text now ≡ entries_in text es ++ (label, target) ∷ []
+  entries-more : entries_in text now ≡ entries_in text es ++ (label, target) ∷ []
   entries-more =
       ap (entries_in text) is
-      ∙ map-append (λ d. (label_in text d, kept_in text d.target)) es (e ∷ [])
+      ∙ map-append (λ d. (label_in text d, kept_target text d.texts)) es (e ∷ [])
       ∙ (λ i. entries_in text es ++ (made.is_label i, made.is_target i) ∷ [])
 
--- the same for the result of a call that may have found no memory
+-- the same after the text has grown, and where nothing else has changed
 
-module _ (E : Type 0) (old text : List ℕ) (es now : List Entry) (e : Entry) (before after : LabelIndex) (label : List ℕ) (target : Target) (value : Targets)
-    (grows : GoesOn old text) (are : AreKept old es before) (made : IsMade text e label target) (is : entries_in old es ≡ value) (absent : target_under label value ≡ None) where
+module _ (old text : List ℕ) (es now : List Entry) (before after : LabelIndex) (value : Targets) (grows : GoesOn old text) (are : AreKept old es before) (is : entries_in old es ≡ value) where
+  grown : AreKept text es before
+  grown = kept-grow old text es before grows are
+
   value-is : entries_in text es ≡ value
   value-is = same-targets old text es value grows are.there is
 
-  none : target_under label (entries_in text es) ≡ None
-  none = ap (target_under label) value-is ∙ absent
+  pub same-kept : now ≡ es → IsSame before after → AreKept text now after
+  same-kept same index =
+      subst (λ ds. AreKept text ds after) (sym same) (record { there = grown.there; distinct = grown.distinct; found = same-index before after (labels_in text es) index grown.found })
 
-  pub told-kept : (told : Result (Unit {0}) E) → OnOk told (now ≡ es ++ e ∷ []) → OnOk told (GoesIn before after label (length es)) → OnErr told ((now ≡ es) × IsSame before after)
-      → AreKept text now after
-  told-kept (Ok u) more put same = kept-more text es now e before after label target (kept-grow old text es before grows are) made none more put
-  told-kept (Err f) more put same = let grown = kept-grow old text es before grows are in
-      subst (λ ds. AreKept text ds after) (sym same.0) (record { there = grown.there; distinct = grown.distinct; found = same-index before after (labels_in text es) same.1 grown.found })
+  pub same-is : now ≡ es → entries_in text now ≡ value
+  same-is same = ap (entries_in text) same ∙ value-is
 
-  pub told-more : (told : Result (Unit {0}) E) → OnOk told (now ≡ es ++ e ∷ []) → OnOk told (entries_in text now ≡ value ++ (label, target) ∷ [])
-  told-more (Ok u) more = entries-more text es now e before after label target (kept-grow old text es before grows are) made none more ∙ ap (λ v. v ++ (label, target) ∷ []) value-is
-  told-more (Err f) more = tt
+  module _ (e : Entry) (label : List ℕ) (target : Target) (made : IsMade text e label target)
+      (passed : IsPassed before.slots.items (home before.slots.items (hash_of label)) (labels_in old es) label)
+      (more : now ≡ es ++ e ∷ []) (put : GoesIn before after label (length es)) where
+    new : IsNew (labels_in text es) label
+    new = subst (λ ls. IsNew ls label) (sym (labels-same old text es grows are.there))
+        (goes-in-new before after (labels_in old es) label are.found passed (subst (GoesIn before after label) (sym (count old es)) put))
 
-  pub told-same : (told : Result (Unit {0}) E) → OnErr told ((now ≡ es) × IsSame before after) → OnErr told (entries_in text now ≡ value)
-  told-same (Ok u) same = tt
-  told-same (Err f) same = ap (entries_in text) same.0 ∙ value-is
+    pub added-kept : AreKept text now after
+    added-kept = kept-more text es now e before after label target grown made new more put
+
+    pub added-is : entries_in text now ≡ add_first value label target
+    added-is =
+        entries-more text es now e before after label target grown made new more
+        ∙ ap (λ v. v ++ (label, target) ∷ []) value-is
+        ∙ sym (add-new text es value value-is label target new)

@@ -95,7 +95,7 @@ block-grows a b (raw_block.Definition label dest title to) grows placed =
     ∙ ap (λ t. trees.Definition (slice_range a.text label dest) t (slice_range b.text title to)) (text-grows a b dest title grows placed.1)
     ∙ ap (trees.Definition (slice_range a.text label dest) (slice_range a.text dest title)) (text-grows a b title to grows placed.2)
 block-grows a b (raw_block.Quote from to) grows placed = ap trees.Quote (slice-same a.blocks grows.blocks b.blocks from to grows.blocks_are placed.0 placed.1)
-block-grows a b (raw_block.List kind tight from to) grows placed = ap (trees.List kind tight) (slice-same a.items grows.items b.items from to grows.items_are placed.0 placed.1)
+block-grows a b (raw_block.List tight kind from to) grows placed = ap (trees.List kind tight) (slice-same a.items grows.items b.items from to grows.items_are placed.0 placed.1)
 
 pub placed-grows : (a b : Raw) (block : RawBlock) → Grows a b → IsPlaced a block → IsPlaced b block
 placed-grows a b (raw_block.Paragraph from to) grows placed = between-grows a b from to grows placed
@@ -106,7 +106,7 @@ placed-grows a b raw_block.Break grows placed = tt
 placed-grows a b (raw_block.Definition label dest title to) grows placed =
     (between-grows a b label dest grows placed.0, between-grows a b dest title grows placed.1, between-grows a b title to grows placed.2)
 placed-grows a b (raw_block.Quote from to) grows placed = range-grows a.blocks grows.blocks b.blocks from to grows.blocks_are placed
-placed-grows a b (raw_block.List kind tight from to) grows placed = range-grows a.items grows.items b.items from to grows.items_are placed
+placed-grows a b (raw_block.List tight kind from to) grows placed = range-grows a.items grows.items b.items from to grows.items_are placed
 
 pub blocks-grow : (a b : Raw) (blocks : List RawBlock) → Grows a b → ArePlaced a blocks → blocks_in b blocks ≡ blocks_in a blocks
 blocks-grow a b [] grows placed = refl

@@ -13,6 +13,6 @@ returns-in-None-clause-absent c = λ none.
     let slots = c.args.index.now.slots.items in
     let labels = labels_in c.args.texts.now c.args.entries.now in
     absent c.args.index.now labels c.args.label.now c.requires.index
-    (subst (λ n. IsPassed slots (home slots n) labels c.args.label.now) c.requires.number
-    (subst (λ ss. IsPassed ss (home ss c.args.number) labels c.args.label.now) c.deref.ensures.value (c.in_slots.ensures.absent c.in-None.is)))
+    (subst (λ n. IsPassed slots (home slots n) labels c.args.label.now) c.requires.hash
+    (subst (λ ss. IsPassed ss (home ss c.args.hash) labels c.args.label.now) c.deref.ensures.value (c.in_slots.ensures.absent c.in-None.is)))
     (sym (c.copied.ensures ∙ c.get.ensures.value) ∙ none)
