@@ -11,8 +11,8 @@
 --    nothing is open.
 --
 -- A line whose content starts as text goes to the end of an open run through every level (`TextGoesOn`), so
--- lines of text that are lent together have the same effect as one by one (TextStands). How often a line is
--- read is a clause of its own (`Tested`): the containers that it stays in and those that it opens are within
+-- lines of text that are lent together have the same effect as one by one (TextStands); where nothing is
+-- open, the first opens the run (TextOpens). How often a line is read is a clause of its own (`Tested`): the containers that it stays in and those that it opens are within
 -- the limit, and each is one reading. TestLemmas adds these up; ContainerLemmas shows that the tree has no
 -- more quotes and items than were opened.
 pub mod RowLemmas
@@ -22,6 +22,7 @@ pub mod ContainerLemmas
 pub mod TestLemmas
 pub mod TextGoesOn
 pub mod TextRunLemmas
+pub mod TextOpens
 pub mod TextStands
 pub mod OpenEnd
 pub mod OnePass

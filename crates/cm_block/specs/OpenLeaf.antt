@@ -38,6 +38,11 @@ abbrev pub blank_lines_behind : OpenLeaf → ℕ
 blank_lines_behind (open_code text lines blank_text blank_lines) = blank_lines
 blank_lines_behind _ = 0
 
+-- no leaf is open
+abbrev pub is_no_leaf : OpenLeaf → Bool
+is_no_leaf no_leaf = true
+is_no_leaf _ = false
+
 -- a lazy continuation line can follow
 abbrev pub is_open_text : OpenLeaf → Bool
 is_open_text (open_text source) = true

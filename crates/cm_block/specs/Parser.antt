@@ -1,5 +1,5 @@
 -- What a parser has taken: the lines that it has been given.
-use Rattle.std.specs.Prelude.{◌≡◌, ℕ, ◌+◌, ◌*◌, ◌≤◌, Bool, not, ◌&&◌, List, length, Some, None, is_some, ⊤}
+use Rattle.std.specs.Prelude.{◌≡◌, ℕ, ◌+◌, ◌*◌, ◌≤◌, Bool, not, ◌&&◌, ◌||◌, ◌==◌, nat_lt, List, length, Some, None, is_some, ⊤}
 use Rattle.cm_text.specs.Rules.{Rules}
 use Rattle.cm_text.specs.Limits.{LimitsView}
 use Rattle.cm_text.specs.Lines.{LineView}
@@ -9,7 +9,7 @@ use Rattle.cm_block.specs.declared.parser.BlockParser as code
 use Rattle.cm_block.specs.declared.parser.Outline.{Outline}
 use Rattle.cm_block.specs.declared.fault.BlockFault.{BlockFault}
 use Rattle.cm_block.specs.declared.fault.BlockFault.TheVariants.{BlocksTooDeep, NoMemory, TooLarge}
-use Rattle.cm_block.specs.OpenLeaf.{is_open_text}
+use Rattle.cm_block.specs.OpenLeaf.{is_open_text, is_no_leaf}
 use Rattle.cm_block.specs.Stack.{Stack, empty_stack, push_lines}
 use Rattle.cm_block.specs.Frames.{stack_with}
 use Rattle.cm_block.specs.LeafViews.{leaf_of}
@@ -19,9 +19,14 @@ use Rattle.cm_block.specs.Tests.{AllTested, container_count, count_of}
 abbrev pub stack_of : code.BlockParser → Stack
 stack_of parser = stack_with parser.stack.bare parser.stack.frames parser.stack.level (leaf_of parser.leaf) parser.owners
 
--- the parser has met no fault, and a run of text is open
-abbrev pub is_in_text : code.BlockParser → Bool
-is_in_text parser = not (is_some parser.fault) && is_open_text (leaf_of parser.leaf)
+-- no container and no leaf is open
+abbrev pub has_nothing_open : code.BlockParser → Bool
+has_nothing_open parser = length parser.stack.frames == 0 && is_no_leaf (leaf_of parser.leaf)
+
+-- The parser has met no fault, and can be given lines of text, the first after this number of spaces: a run of text is open, or nothing
+-- is, and they aren't indented code (4.4 Indented code blocks).
+abbrev pub takes_text : code.BlockParser → ℕ → Bool
+takes_text parser spaces = not (is_some parser.fault) && (is_open_text (leaf_of parser.leaf) || (nat_lt spaces 4 && has_nothing_open parser))
 
 -- The parser has been given these lines, and can be given more. With its limits and rules none of them is too deep. It has read
 -- them as often as `TestsOf` says.

@@ -7,11 +7,10 @@
 //! Contracts see a `BlockParser` by its fields (`stack_of`). Its stack holds data inside itself, and the
 //! checker could only distinguish values of such a type with hand-written code.
 ghost use Rattle.std.specs.Prelude.{◌≡◌, ◌≢◌, ◌+◌, ◌-◌, ◌<◌, ◌≤◌, ◌∷◌, ◌++◌, []};
-ghost use Rattle.std.specs.Prelude.{List, None, true, false, length, suc, Some, Err, IfOk, IfErr, OnOk};
+ghost use Rattle.std.specs.Prelude.{ℕ, List, None, true, false, length, suc, Some, Err, IfOk, IfErr, OnOk};
 ghost use Rattle.cm_block.specs.Prelude.{answer_after, LineView, plain_lines_of, seen_line, seen_view};
 ghost use Rattle.cm_block.specs.declared.fault.BlockFault as faults;
-ghost use Rattle.cm_block.specs.declared.fault.BlockFault.TheVariants as block_faults;
-ghost use Rattle.cm_block.specs.OpenLeaf.{no_leaf};
+ghost use Rattle.cm_block.specs.OpenLeaf.{no_leaf, open_text, is_open_text};
 ghost use Rattle.cm_block.specs.Machine.{in_leaf};
 ghost use Rattle.cm_block.specs.Stack.{close_open, own_open, push_line};
 ghost use Rattle.cm_block.specs.steps.FrameSteps.{quoted_by, closed_to};
@@ -20,10 +19,12 @@ ghost use Rattle.cm_block.specs.steps.StartViews.{seen};
 ghost use Rattle.cm_block.specs.steps.FirstLines.{begins_container};
 ghost use Rattle.cm_block.specs.steps.FrameStarts.{begun_by, with_blank, LeafBegins, DeepIn};
 ghost use Rattle.cm_block.specs.Faults.{IsTooMuch};
-ghost use Rattle.cm_block.specs.Parser.{stack_of, is_in_text, HasTaken, TellsDepth, OutlineOf, TestsOf};
+ghost use Rattle.cm_block.specs.Parser.{stack_of, has_nothing_open, takes_text};
+ghost use Rattle.cm_block.specs.Parser.{HasTaken, TellsDepth, OutlineOf, TestsOf};
 ghost use Rattle.cm_block.specs.Tests.{count_of};
 ghost use Rattle.cm_block.specs.steps.LineTests.{Tested};
-ghost use Rattle.cm_block.specs.steps.ParserSteps.{Deep, ends_at_blank, TakenToLeaf};
+ghost use Rattle.cm_block.specs.steps.ParserSteps.{Deep, ends_at_blank, with_run, TakenToLeaf};
+ghost use Rattle.cm_block.specs.steps.TextRuns.{add_lines};
 
 use crate::containers::Innermost;
 use crate::counted_line::{CountedLine, CountedLines, LeafStart};
@@ -327,39 +328,92 @@ impl BlockParser {
         result
     }
 
-    /// Whether a run of text is open. Lines of text then continue it, whatever encloses it.
+    /// Whether no container and no leaf is open.
     #[inline(always)]
-    pub fn is_in_text(&self) -> bool
-        ensures { result ≡ is_in_text self.now }
+    fn has_nothing_open(&self) -> bool
+        ensures { result ≡ has_nothing_open self.now }
     {
-        self.fault.is_none() && self.leaf.is_run()
+        self.stack.depth() == 0 && matches!(self.leaf.kind, LeafKind::Nothing)
     }
 
-    /// Reads lines of text, as `line_view` reads one after another. They continue a run of text, which is
-    /// open. They aren't kept.
+    /// Whether `text_lines` reads lines of text, the first after this number of spaces: they continue an open
+    /// run of text, whatever encloses it, or start one where nothing is open, unless they are indented code.
+    #[inline(always)]
+    pub fn takes_text(&self, spaces: usize) -> bool
+        ensures { result ≡ takes_text self.now spaces }
+    {
+        self.fault.is_none() && (self.leaf.is_run() || spaces < 4 && self.has_nothing_open())
+    }
+
+    /// Opens a run of text, unless a leaf is open.
+    #[inline(always)]
+    fn open_run(&mut self) -> Result<(), RawFault>
+        ensures run { OnOk result ((self.new.stack.level, leaf_of self.new.leaf)
+            ≡ with_run self.old.stack.level (leaf_of self.old.leaf)) }
+        ensures bare { OnOk result (self.new.stack.bare ≡ false) }
+        ensures frames { self.new.stack.frames ≡ self.old.stack.frames }
+        ensures owners { self.new.owners ≡ self.old.owners }
+        ensures limits { self.new.limits ≡ self.old.limits }
+        ensures counted { self.new.tests ≡ self.old.tests }
+        ensures fault { self.new.fault ≡ self.old.fault }
+    {
+        self.stack.set_bare(false);
+        if let LeafKind::Nothing = self.leaf.kind {
+            self.stack.open_block()?;
+            self.leaf.kind = LeafKind::Run;
+        }
+        Ok(())
+    }
+
+    /// Adds lines of text to the open run, or to one that they start.
+    #[inline(always)]
+    fn add_text(&mut self, lines: &mut CountedLines<'_>) -> Result<(), RawFault>
+        requires run { is_open_text (with_run self.old.stack.level (leaf_of self.old.leaf)).1 ≡ true }
+        requires counted { lines.old.tests ≡ lines.old.lines.count }
+        ensures level { OnOk result (self.new.stack.level
+            ≡ (with_run self.old.stack.level (leaf_of self.old.leaf)).0) }
+        ensures text { OnOk result ((source : List ℕ)
+            → (with_run self.old.stack.level (leaf_of self.old.leaf)).1 ≡ open_text source
+            → leaf_of self.new.leaf
+            ≡ open_text (add_lines source (plain_lines_of lines.old.lines.text.now))) }
+        ensures bare { OnOk result (self.new.stack.bare ≡ false) }
+        ensures frames { self.new.stack.frames ≡ self.old.stack.frames }
+        ensures owners { self.new.owners ≡ self.old.owners }
+        ensures limits { self.new.limits ≡ self.old.limits }
+        ensures counted { self.new.tests ≡ self.old.tests }
+        ensures fault { self.new.fault ≡ self.old.fault }
+        ensures tests { OnOk result (lines.new.tests ≡ lines.old.tests + lines.old.lines.count) }
+    {
+        self.open_run()?;
+        self.leaf.add_lines(lines)?;
+        Ok(())
+    }
+
+    /// Reads lines of text, as `line_view` reads one after another. They aren't kept.
     ///
     /// # Errors
     ///
-    /// `NoMemory` if a request for memory was refused, and from then on.
+    /// `NoMemory` if a request for memory was refused, `TooLarge` if a place would need more than 32 bits; the
+    /// same fault from then on.
     #[inline(always)]
     pub fn text_lines(&mut self, more: &TextLines<'_>) -> Result<(), BlockFault>
-        requires { is_in_text self.old ≡ true }
+        requires { takes_text self.old more.now.spaces ≡ true }
         ensures stands { OnOk result ((lines : List LineView) → HasTaken self.old lines →
             HasTaken self.new (lines ++ plain_lines_of more.now.text.now)) }
-        ensures memory { IfErr result (λ fault. fault ≡ block_faults.NoMemory) }
+        ensures memory { IfErr result IsTooMuch }
         ensures answer { result ≡ answer_after self.new.fault }
         ensures limits { self.new.limits ≡ self.old.limits }
     {
         // The range of the limit, which bounds how often a line is read.
         let _limit = self.limits.blocks();
         let mut lines = CountedLines::new(*more);
-        self.stack.set_bare(false);
-        let result = self.leaf.add_lines(&mut lines);
+        let result = self.add_text(&mut lines);
         self.tests = self.tests.saturating_add(lines.into_tests());
-        let Ok(()) = result else {
-            self.fault = Some(BlockFault::NoMemory);
-            return Err(BlockFault::NoMemory);
-        };
+        if let Err(refused) = result {
+            let fault = BlockFault::from(refused);
+            self.fault = Some(fault);
+            return Err(fault);
+        }
         Ok(())
     }
 

@@ -21,7 +21,7 @@ use Rattle.cm_block.proofs.lemmas.StartLemmas.{content-after}
 use Rattle.cm_block.proofs.lemmas.Lazy.{lazy_line}
 
 -- a line whose content starts like this isn't blank
-shows : (text : List ℕ) → is_text_behind 0 (trim_start text) ≡ true → is_blank_text text ≡ false
+pub shows : (text : List ℕ) → is_text_behind 0 (trim_start text) ≡ true → is_blank_text text ≡ false
 unfolding skip
 shows [] h = absurd (cc (h))
 shows (b ∷ bs) h = go (is_space_or_tab b) refl h (λ k. shows bs k)

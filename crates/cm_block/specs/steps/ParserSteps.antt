@@ -1,10 +1,11 @@
 -- Steps of the parser.
-use Rattle.std.specs.Prelude.{◌≡◌, ℕ, suc, ◌<◌, ◌≤◌, Bool, true, false, length, Some, None, ⊤}
+use Rattle.std.specs.Prelude.{◌≡◌, ℕ, suc, ◌<◌, ◌≤◌, Bool, true, false, [], length, Some, None, ⊤}
 use Rattle.cm_text.specs.Limits.{LimitsView}
 use Rattle.cm_text.specs.Lines.{LineView}
 use Rattle.cm_block.specs.declared.parser.BlockParser as code
 use Rattle.cm_block.specs.declared.fault.BlockFault.{BlockFault}
 use Rattle.cm_block.specs.declared.fault.BlockFault.TheVariants.{BlocksTooDeep, NoMemory, TooLarge}
+use Rattle.cm_block.specs.Level.{Level, block_opens}
 use Rattle.cm_block.specs.Stack.{Stack, close_stack, push_leaf_line, push_line}
 use Rattle.cm_block.specs.Depths.{nesting}
 use Rattle.cm_block.specs.steps.FrameSteps.{within}
@@ -17,6 +18,11 @@ abbrev pub Deep : BlockFault → LimitsView → Stack → LineView → Type 0
 Deep (BlocksTooDeep n) limits before line = (limits.blocks < nesting (push_line limits.rules before line).now) × (n ≡ suc (length (close_stack before).owners))
 Deep NoMemory limits before line = ⊤
 Deep TooLarge limits before line = ⊤
+
+-- a level and the open leaf once a run of text is opened there, unless a leaf is open
+abbrev pub with_run : Level → OpenLeaf → Level × OpenLeaf
+with_run level no_leaf = (block_opens level, open_text [])
+with_run level x = (level, x)
 
 -- a blank line is none of its lines
 abbrev pub ends_at_blank : OpenLeaf → Bool

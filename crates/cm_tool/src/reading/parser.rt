@@ -9,7 +9,7 @@ ghost use Rattle.cm_text.specs.Lines.{LineView};
 ghost use Rattle.cm_text.specs.Feed.{StandsFor as FeedStandsFor, with_ready, count};
 ghost use Rattle.cm_scan.specs.laws.PartLaws.{AreLines};
 ghost use Rattle.cm_block.specs.Parser.{HasTaken, TellsDepth};
-ghost use Rattle.cm_block.specs.declared.fault.BlockFault.TheVariants as block_faults;
+ghost use Rattle.cm_block.specs.Faults.{IsTooMuch};
 ghost use Rattle.cm_tool.specs.declared.fault.Fault as faults;
 ghost use Rattle.cm_tool.specs.Faults.{fault_of, settled_fault_of};
 ghost use Rattle.cm_tool.specs.Parsing.{Goes, HasTakenIn, Answers, Finishes, TellsFault, Makes};
@@ -202,30 +202,33 @@ fn outline(mut feed: LineBuffer, mut blocks: BlockParser) -> Result<Outline, Fau
     Ok(outline)
 }
 
-/// Lends the lines of text at the start to the blocks, if they continue a run of text there.
+/// Lends the lines of text at the start to the blocks, if they continue a run of text there or start one.
 #[inline(always)]
 fn hand_over_text(feed: &mut LineBuffer, blocks: &mut BlockParser) -> Result<(), BlockFault>
     ensures ended { feed.new.ended ≡ feed.old.ended }
     ensures limit { feed.new.limit ≡ feed.old.limit }
     ensures limits { blocks.new.limits ≡ blocks.old.limits }
     ensures handed { OnOk result (Hands feed.old blocks.old feed.new blocks.new) }
-    ensures memory { IfErr result (λ fault. fault ≡ block_faults.NoMemory) }
+    ensures memory { IfErr result IsTooMuch }
 {
-    if !blocks.is_in_text() {
+    if !blocks.takes_text(0) {
         return Ok(());
     }
     feed.look_for_text();
     let Some(lines) = feed.text_lines() else {
         return Ok(());
     };
+    if !blocks.takes_text(lines.spaces) {
+        return Ok(());
+    }
     let count = lines.count;
     blocks.text_lines(&lines)?;
     feed.pass_lines(count);
     Ok(())
 }
 
-/// Lends the lines that have ended to the blocks, one after another. Lines of text that continue a run are
-/// lent together.
+/// Lends the lines that have ended to the blocks, one after another. Lines of text are lent together, where
+/// they continue a run or start one.
 fn hand_over(feed: &mut LineBuffer, blocks: &mut BlockParser) -> Result<(), BlockFault>
     ensures ready { OnOk result (feed.new ≡ with_ready [] feed.old) }
     ensures ended { feed.new.ended ≡ feed.old.ended }
