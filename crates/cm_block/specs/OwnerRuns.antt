@@ -1,4 +1,4 @@
--- Adjacent lines with the same owner, kept as runs. A run says whether its lines belong to the next leaf, the last one or none, so the
+-- Adjacent lines with the same owner, kept as runs with the blank lines after them. A run says whether its lines belong to the next leaf, the last one or none, so the
 -- leaves are counted from run to run.
 use Rattle.std.specs.Prelude.{ℕ, suc, List, [], ◌∷◌, ◌++◌, replicate}
 use Rattle.cm_tree.specs.declared.tree.Owner.{Owner}
@@ -28,7 +28,7 @@ leaves_in leaves (run ∷ runs) = leaves_in (leaves_with leaves run.owner) runs
 
 -- the owners of a run's lines, after the given number of leaves
 abbrev pub owners_of_run : ℕ → OwnerRun → List Owner
-owners_of_run leaves run = replicate run.lines (owner_of (leaves_with leaves run.owner) run.owner)
+owners_of_run leaves run = replicate run.lines (owner_of (leaves_with leaves run.owner) run.owner) ++ replicate run.blanks owner.Blank
 
 -- the owner of each line of some runs, after the given number of leaves
 abbrev pub owners_of : ℕ → List OwnerRun → List Owner

@@ -1,8 +1,10 @@
-//! The owner of each line, kept in runs: consecutive lines with the same owner are one run.
+//! The owner of each line, kept in runs: consecutive lines with the same owner, and the blank lines after
+//! them, are one run.
 //!
 //! A run takes 4 bytes, because it says whether it has one more leaf, the last one or none, and holds no
-//! number. It has fewer than 2^16 lines, so 2^28 line feeds take 4,097 runs. Each leaf starts a run, so
-//! neither the lines, counted in a `u128`, nor the leaves, counted in a `usize`, can overflow.
+//! number. It has fewer than 2^16 lines and 2^8 blank ones after them, so 2^28 line feeds take 4,081 runs.
+//! Each leaf starts a run, so neither the lines, counted in a `u128`, nor the leaves, counted in a `usize`,
+//! can overflow.
 //!
 //! Runs are kept even if no caller asks for owners, so that each contract has one form. Without them an
 //! unproved program took 0.5 to 1.5 percent fewer instructions.
@@ -16,8 +18,11 @@ use cm_tree::{Items, Owner};
 use std::alloc::{AllocError, Global};
 use std::marker::Model;
 
-/// The greatest number of lines of a run.
+/// The greatest number of lines with the owner of a run.
 const MOST: usize = u16::MAX as usize;
+
+/// The greatest number of blank lines after them.
+const MOST_BLANK: usize = u8::MAX as usize;
 
 /// Whose lines a run has. Leaves are counted in the order of the runs, so that no run holds a number.
 #[derive(Clone, Copy, Debug, PartialEq, Eq)]
@@ -32,15 +37,17 @@ pub(crate) enum RunOwner {
     SameLeaf,
 }
 
-/// Consecutive lines with the same owner, up to `MOST` of them.
+/// Consecutive lines with the same owner, up to `MOST` of them, and blank lines after them from which no
+/// marker was taken, up to `MOST_BLANK`.
 #[derive(Clone, Copy, Debug)]
 pub(crate) struct OwnerRun {
     pub(crate) owner: RunOwner,
+    pub(crate) blanks: u8,
     pub(crate) lines: u16,
 }
 
 /// The owner of each line so far, and the number of leaves. Consecutive lines with the same owner take the
-/// memory of one. Each leaf starts a run, so there are no more leaves than runs.
+/// memory of one, with the blank lines after them. Each leaf starts a run, so there are no more leaves than runs.
 #[derive(Debug, Drop)]
 pub(crate) struct OwnerRuns {
     closed: Vec<OwnerRun>,
@@ -58,10 +65,11 @@ impl Model for OwnerRuns {
     ghost view = { λ o. record { owners = owners_in o.closed.items o.last; leaves = o.leaves } };
 
     ghost invariant = { λ o. (o.count ≡ length (owners_in o.closed.items o.last))
-        × (o.count ≤ length o.closed.items * 2 ^ 16 + o.last.lines)
+        × (o.count ≤ length o.closed.items * 2 ^ 17 + (o.last.lines + o.last.blanks))
         × (o.leaves ≡ leaves_with (leaves_in 0 o.closed.items) o.last.owner)
         × (o.leaves ≤ length o.closed.items)
-        × (o.last.lines < 2 ^ 16) };
+        × (o.last.lines < 2 ^ 16)
+        × (o.last.blanks < 2 ^ 8) };
 }
 
 /// The number of leaves up to and including a run of this owner, after `leaves` leaves.
@@ -99,13 +107,22 @@ fn owner_of(leaves: usize, owner: RunOwner) -> Owner
 }
 
 /// Appends an owner `lines` times.
-fn push_run(owners: &mut Vec<Owner>, owner: Owner, lines: u16) -> Result<(), AllocError>
+fn push_owner(owners: &mut Vec<Owner>, owner: Owner, lines: u16) -> Result<(), AllocError>
     ensures { OnOk result (owners.new.items ≡ owners.old.items ++ replicate lines owner) }
 {
     for _ in 0..lines {
         owners.push(owner)?;
     }
     Ok(())
+}
+
+/// Appends the owners of a run's lines. There are `leaves` leaves up to the end of the run.
+fn push_run(owners: &mut Vec<Owner>, leaves: usize, run: OwnerRun) -> Result<(), AllocError>
+    ensures { OnOk result (owners.new.items ≡ owners.old.items
+        ++ (replicate run.lines (owner_of leaves run.owner) ++ replicate run.blanks owner.Blank)) }
+{
+    push_owner(owners, owner_of(leaves, run.owner), run.lines)?;
+    push_owner(owners, Owner::Blank, u16::from(run.blanks))
 }
 
 impl OwnerRuns {
@@ -117,6 +134,7 @@ impl OwnerRuns {
             closed: Vec::new(alloc),
             last: OwnerRun {
                 owner: RunOwner::Blank,
+                blanks: 0,
                 lines: 0,
             },
             count: 0,
@@ -147,6 +165,7 @@ impl OwnerRuns {
         let _runs = self.closed.len();
         self.leaves = leaves_with(self.leaves, owner);
         self.last.owner = owner;
+        self.last.blanks = 0;
         self.last.lines = lines as u16;
         self.count += lines as u128;
         Ok(())
@@ -179,8 +198,16 @@ impl OwnerRuns {
         let owner = blank_run(marked);
         // The number of runs bounds that of the lines.
         let _runs = self.closed.len();
-        if owner == self.last.owner && lines <= MOST - self.last.lines as usize {
+        if owner == self.last.owner
+            && self.last.blanks == 0
+            && lines <= MOST - self.last.lines as usize
+        {
             self.last.lines += lines as u16;
+            self.count += lines as u128;
+            return Ok(());
+        }
+        if !marked && lines <= MOST_BLANK - self.last.blanks as usize {
+            self.last.blanks += lines as u8;
             self.count += lines as u128;
             return Ok(());
         }
@@ -209,13 +236,9 @@ impl OwnerRuns {
         let mut leaves: usize = 0;
         for run in self.closed.iter() {
             leaves = leaves_with(leaves, run.owner);
-            push_run(&mut owners, owner_of(leaves, run.owner), run.lines)?;
+            push_run(&mut owners, leaves, *run)?;
         }
-        push_run(
-            &mut owners,
-            owner_of(self.leaves, self.last.owner),
-            self.last.lines,
-        )?;
+        push_run(&mut owners, self.leaves, self.last)?;
         Ok(Items::from(owners))
     }
 }

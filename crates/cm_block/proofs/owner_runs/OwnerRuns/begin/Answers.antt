@@ -1,15 +1,15 @@
-use Rattle.std.proofs.Common.{◌≡◌, ◌≤◌, ◌+◌, ◌++◌, [], ◌∷◌, length, sym, ap, ap₂, ◌∙◌, arith}
+use Rattle.std.proofs.Common.{◌≡◌, ◌≤◌, ◌+◌, ◌++◌, [], ◌∷◌, length, refl, sym, ap, ap₂, ◌∙◌, arith}
 use Rattle.std.proofs.lemmas.List.{length-append, length-replicate}
 use Rattle.cm_block.specs.OwnerRuns.{OwnedLines, leaves_with, leaves_in, owner_of, owners_in, owners_of_run}
 use Rattle.cm_block.specs.declared.owner_runs.OwnerRun.{OwnerRun}
-use Rattle.cm_block.proofs.lemmas.OwnerRunLemmas.{next_run, leaves_begun, at_most_one}
+use Rattle.cm_block.proofs.lemmas.OwnerRunLemmas.{run_alone, next_run, leaves_begun, at_most_one}
 use Rattle.cm_block.proofs.owner_runs.OwnerRuns.begin.Goals as goal
 
 pub invariant_of-self-2 : goal.invariant_of-self-2
 invariant_of-self-2 c =
     let was = c.self.inside in
     let kept = c.self.invariant in
-    let next : OwnerRun = record { owner = c.args.owner; lines = c.args.lines } in
+    let next : OwnerRun = record { owner = c.args.owner; blanks = 0; lines = c.args.lines } in
     let items = c.in_ok-push.ensures.items in
     let before = owners_in was.closed.items was.last in
     let more = owners_of_run was.leaves next in
@@ -17,7 +17,7 @@ invariant_of-self-2 c =
     ap (λ xs. owners_in xs next) items ∙ next_run was.closed.items was.last next was.leaves kept.2 in
     let longer : length (owners_in c.push.new.self.items next) ≡ length before + c.args.lines =
     ap length whole ∙ length-append before more
-    ∙ ap (λ n. length before + n) (length-replicate c.args.lines (owner_of (leaves_with was.leaves c.args.owner) c.args.owner)) in
+    ∙ ap (λ n. length before + n) (ap length (run_alone was.leaves next refl) ∙ length-replicate c.args.lines (owner_of (leaves_with was.leaves c.args.owner) c.args.owner)) in
     let leaves : c.leaves_with-self-inside.result ≡ leaves_with (leaves_in 0 c.push.new.self.items) c.args.owner =
     c.leaves_with-self-inside.ensures
     ∙ leaves_begun was.closed.items was.last next was.leaves kept.2
@@ -25,15 +25,16 @@ invariant_of-self-2 c =
     let runs : length c.push.new.self.items ≡ length was.closed.items + 1 = ap length items ∙ length-append was.closed.items (was.last ∷ []) in
     let few : c.leaves_with-self-inside.result ≤ length c.push.new.self.items =
     omega (arith, c.leaves_with-self-inside.ensures, at_most_one was.leaves c.args.owner, runs, kept.3) in
-    (omega (arith, longer, kept.0), omega (arith, runs, kept.1, kept.4), leaves, few, c.requires)
+    (omega (arith, longer, kept.0), omega (arith, longer, runs, kept.0, kept.1, kept.4, kept.5, c.requires), leaves, few, c.requires, omega arith)
 
 pub returns : goal.returns
 returns c =
     let was = c.self.inside in
     let kept = c.self.invariant in
-    let next : OwnerRun = record { owner = c.args.owner; lines = c.args.lines } in
+    let next : OwnerRun = record { owner = c.args.owner; blanks = 0; lines = c.args.lines } in
     ap₂ (λ xs n. record { owners = xs; leaves = n })
     (ap (λ xs. owners_in xs next) c.in_ok-push.ensures.items
     ∙ next_run was.closed.items was.last next was.leaves kept.2
-    ∙ ap (λ (o : OwnedLines). o.owners ++ owners_of_run o.leaves next) c.self.view_is)
+    ∙ ap (λ (o : OwnedLines). o.owners ++ owners_of_run o.leaves next) c.self.view_is
+    ∙ ap (λ xs. c.args.self.now.owners ++ xs) (run_alone c.args.self.now.leaves next refl))
     (c.leaves_with-self-inside.ensures ∙ ap (λ (o : OwnedLines). leaves_with o.leaves c.args.owner) c.self.view_is)
