@@ -189,6 +189,7 @@ impl OwnerRuns {
     }
 
     /// Adds `lines` blank lines. `marked` says whether markers were taken from them.
+    #[inline(always)]
     pub(crate) fn push_blank(&mut self, marked: bool, lines: usize) -> Result<(), AllocError>
         ensures { OnOk result (self.new ≡ record {
           owners = self.old.owners ++ replicate lines (blank_owner marked);
