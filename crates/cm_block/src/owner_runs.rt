@@ -46,8 +46,9 @@ pub(crate) struct OwnerRun {
     pub(crate) lines: u16,
 }
 
-/// The owner of each line so far, and the number of leaves. Consecutive lines with the same owner take the
-/// memory of one, with the blank lines after them. Each leaf starts a run, so there are no more leaves than runs.
+/// The owner of each line so far, and the number of leaves. Consecutive lines with the same owner, and the
+/// blank lines after them, take the memory of one. Each leaf starts a run, so there are no more leaves than
+/// runs.
 #[derive(Debug, Drop)]
 pub(crate) struct OwnerRuns {
     closed: Vec<OwnerRun>,

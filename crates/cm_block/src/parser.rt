@@ -1,15 +1,17 @@
 //! The block structure of a document, line by line.
 //!
-//! While a paragraph is open, one call takes several lines of text. A line that is marked lazy while no
-//! container is open starts nothing but text: it continues or starts a paragraph, is no underline and
-//! interrupts nothing. The mark changes nothing for code blocks, HTML blocks and blank lines.
+//! Where a paragraph is open, or nothing is, one call takes several lines of text. A line that is marked lazy
+//! while no container is open starts nothing but text: it continues or starts a paragraph, is no underline
+//! and interrupts nothing. The mark changes nothing for code blocks, HTML blocks and blank lines.
 //!
 //! Contracts see a `BlockParser` by its fields (`stack_of`). Its stack holds data inside itself, and the
 //! checker could only distinguish values of such a type with hand-written code.
 ghost use Rattle.std.specs.Prelude.{◌≡◌, ◌≢◌, ◌+◌, ◌-◌, ◌<◌, ◌≤◌, ◌∷◌, ◌++◌, []};
-ghost use Rattle.std.specs.Prelude.{ℕ, List, None, true, false, length, suc, Some, Err, IfOk, IfErr, OnOk};
+ghost use Rattle.std.specs.Prelude.{ℕ, List, None, true, false, length, suc, Some, Err, IfOk, IfErr, OnOk, OnErr};
 ghost use Rattle.cm_block.specs.Prelude.{answer_after, LineView, plain_lines_of, seen_line, seen_view};
 ghost use Rattle.cm_block.specs.declared.fault.BlockFault as faults;
+ghost use Rattle.cm_block.specs.declared.fault.BlockFault.TheVariants as block_faults;
+ghost use Rattle.cm_tree.specs.declared.raw_blocks.RawFault.TheVariants as raw_faults;
 ghost use Rattle.cm_block.specs.OpenLeaf.{no_leaf, open_text, is_open_text};
 ghost use Rattle.cm_block.specs.Machine.{in_leaf};
 ghost use Rattle.cm_block.specs.Stack.{close_open, own_open, push_line};
@@ -350,6 +352,7 @@ impl BlockParser {
     fn open_run(&mut self) -> Result<(), RawFault>
         ensures run { OnOk result ((self.new.stack.level, leaf_of self.new.leaf)
             ≡ with_run self.old.stack.level (leaf_of self.old.leaf)) }
+        ensures refused { OnErr result (leaf_of self.old.leaf ≡ no_leaf) }
         ensures bare { OnOk result (self.new.stack.bare ≡ false) }
         ensures frames { self.new.stack.frames ≡ self.old.stack.frames }
         ensures owners { self.new.owners ≡ self.old.owners }
@@ -383,6 +386,8 @@ impl BlockParser {
         ensures counted { self.new.tests ≡ self.old.tests }
         ensures fault { self.new.fault ≡ self.old.fault }
         ensures tests { OnOk result (lines.new.tests ≡ lines.old.tests + lines.old.lines.count) }
+        ensures refused { IfErr result (λ fault. leaf_of self.old.leaf ≢ no_leaf →
+            fault ≡ raw_faults.NoMemory) }
     {
         self.open_run()?;
         self.leaf.add_lines(lines)?;
@@ -393,14 +398,16 @@ impl BlockParser {
     ///
     /// # Errors
     ///
-    /// `NoMemory` if a request for memory was refused, `TooLarge` if a place would need more than 32 bits; the
-    /// same fault from then on.
+    /// `NoMemory` if a request for memory was refused, `TooLarge` if no leaf was open and a place would need
+    /// more than 32 bits; the same fault from then on.
     #[inline(always)]
     pub fn text_lines(&mut self, more: &TextLines<'_>) -> Result<(), BlockFault>
         requires { takes_text self.old more.now.spaces ≡ true }
         ensures stands { OnOk result ((lines : List LineView) → HasTaken self.old lines →
             HasTaken self.new (lines ++ plain_lines_of more.now.text.now)) }
         ensures memory { IfErr result IsTooMuch }
+        ensures run { IfErr result (λ fault. leaf_of self.old.leaf ≢ no_leaf →
+            fault ≡ block_faults.NoMemory) }
         ensures answer { result ≡ answer_after self.new.fault }
         ensures limits { self.new.limits ≡ self.old.limits }
     {

@@ -200,7 +200,8 @@ fn put(
     entry: Entry,
 ) -> Result<bool, AllocError>
     requires { entry.hash ≡ hash_of label.now }
-    ensures entries { IfOk result (λ added. added ≡ true → entries.new.items ≡ entries.old.items ++ entry ∷ []) }
+    ensures entries { IfOk result (λ added. added ≡ true
+        → entries.new.items ≡ entries.old.items ++ entry ∷ []) }
     ensures index { IfOk result (λ added. added ≡ true
         → GoesIn index.old index.new label.now (length entries.old.items)) }
     ensures same { IfOk result (λ added. added ≡ false → entries.new.items ≡ entries.old.items) }

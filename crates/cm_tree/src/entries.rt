@@ -5,7 +5,8 @@ ghost use Rattle.std.specs.Str.{bytes_eq};
 ghost use Rattle.cm_tree.specs.Definitions.{Target};
 ghost use Rattle.cm_tree.specs.LinkTargets.{led_to};
 ghost use Rattle.cm_tree.specs.steps.KeptTexts.{kept_label, kept_target, GoesOn};
-ghost use Rattle.cm_tree.specs.steps.LabelIndex.{hash_of, home, IsIndex, IsLabel, IsNew, IsPassed, AreDistinct};
+ghost use Rattle.cm_tree.specs.steps.LabelIndex.{hash_of, home};
+ghost use Rattle.cm_tree.specs.steps.LabelIndex.{IsIndex, IsLabel, IsNew, IsPassed, AreDistinct};
 ghost use Rattle.cm_tree.specs.steps.Entries.{labels_in, IsEntry, AreEntries, IsMade};
 
 use crate::kept_texts::KeptTexts;
@@ -18,7 +19,8 @@ use std::alloc::{AllocError, Global};
 pub(crate) struct Entry {
     /// The hash of its folded label.
     pub(crate) hash: u32,
-    /// Whether its address has no scheme, or one of the web's. It is judged once, however many references ask.
+    /// Whether its address has no scheme, or one of the web's. It is judged once, however many references
+    /// ask.
     pub(crate) is_web: bool,
     /// Its folded label, its destination and its title.
     pub(crate) texts: KeptTexts,
