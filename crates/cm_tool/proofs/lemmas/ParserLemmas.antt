@@ -21,6 +21,7 @@ use Rattle.cm_block.specs.declared.fault.BlockFault.{BlockFault}
 use Rattle.cm_block.specs.declared.fault.BlockFault.TheVariants as blocks
 use Rattle.cm_block.specs.declared.parser.BlockParser.{BlockParser}
 use Rattle.cm_block.specs.declared.parser.Outline.{Outline}
+use Rattle.cm_block.specs.Faults.{IsTooMuch}
 use Rattle.cm_block.specs.Parser.{HasTaken, TellsDepth}
 use Rattle.cm_block.proofs.lemmas.Depths.{too_deep_stays}
 use Rattle.cm_tool.specs.declared.fault.Fault.{Fault}
@@ -59,6 +60,12 @@ ready_lines None true feed bytes taken memory going h = cc
 ready_lines (Some (text.NotUtf8 at)) ended feed bytes taken memory going h = h.ready
 ready_lines (Some (text.TooLong at)) ended feed bytes taken memory going h = h.ready
 ready_lines (Some text.NoMemory) ended feed bytes taken memory going h = absurd (memory refl)
+
+-- a fault of no line, whatever the lines are
+pub too_much_told : (fault : BlockFault) (limits : LimitsView) (lines : List LineView) → IsTooMuch fault → TellsDepth fault limits lines
+too_much_told blocks.NoMemory limits lines e = tt
+too_much_told blocks.TooLarge limits lines e = tt
+too_much_told (blocks.BlocksTooDeep line) limits lines e = absurd e
 
 -- A line isn't taken in: so it is with those that follow it too.
 pub taken_told : (fault : BlockFault) (limits now : LimitsView) (lines front next all : List LineView) (line : LineView) → now ≡ limits → front ++ line ∷ next ≡ all

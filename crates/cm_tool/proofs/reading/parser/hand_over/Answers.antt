@@ -2,7 +2,7 @@ use Rattle.std.proofs.Common.{◌∙◌, [], ◌∷◌, ◌++◌, ap, sym, arith
 use Rattle.std.proofs.lemmas.Result.{err_from_is_err_and}
 use Rattle.cm_text.specs.Views.{seen_view}
 use Rattle.cm_block.specs.Parser.{HasTaken}
-use Rattle.cm_tool.proofs.lemmas.ParserLemmas.{taken_told}
+use Rattle.cm_tool.proofs.lemmas.ParserLemmas.{taken_told, too_much_told}
 use Rattle.cm_tool.proofs.lemmas.PassedLemmas.{one_passed, hands_then}
 use Rattle.cm_tool.proofs.reading.parser.hand_over.Goals as goal
 
@@ -29,3 +29,8 @@ returns-in_err-line_view-clause-told c =
     let text = hands_then c.args.feed.now c.loop-feed.feed c.hand_over_text.new.feed c.args.blocks.now c.loop-feed.blocks c.hand_over_text.new.blocks i.handed c.in_ok-hand_over_text.ensures.handed in
     rw (p.1, p.2) (λ lines h are. taken_told c.in_err-line_view.field-0.0 _ _ lines text.0 (drop 1 c.hand_over_text.new.feed.cut.ended) _ (seen_view c.in-Some.line) (c.in_ok-hand_over_text.ensures.limits ∙ i.limits)
     (ap (λ t. text.0 ++ t) (sym c.in-Some.ensures.line) ∙ text.1.parts) (c.in_err-line_view.ensures.told (lines ++ text.0) (text.2 lines h)) are)
+
+pub returns-in_err-hand_over_text-clause-told : goal.returns-in_err-hand_over_text-clause-told
+returns-in_err-hand_over_text-clause-told c =
+    let p = err_from_is_err_and c.from_residual.result c.from_residual.ensures.1 in
+    rw (p.1, p.2) (λ lines h are. too_much_told c.in_err-hand_over_text.field-0.0 c.args.blocks.now.limits (lines ++ c.args.feed.now.cut.ended) c.in_err-hand_over_text.ensures.memory)
