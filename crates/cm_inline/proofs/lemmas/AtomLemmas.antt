@@ -61,8 +61,7 @@ run-stays b h (suc n) = ap (λ v. v && list_all (stays_text true) (replicate n b
 
 pub marker-stays : (m : Marker) → stays_text true (byte_of m) ≡ true
 marker-stays Star = refl
-marker-stays Underscore = refl
-marker-stays Tilde = refl
+marker-stays _ = refl
 
 module _ (rules : Rules) (source : List ℕ) (at : ℕ) where
   is-atom : (item : items.Item) (end : ℕ) (a : AtomRead) → at < length source → atom_in rules source at ≡ a → a.rest ≡ drop end source → item_for a.atom a.rest ≡ Some item
@@ -260,12 +259,10 @@ module _ (rules : Rules) (source : List ℕ) (at : ℕ) where
   pub backslash-is-text : IsUtf8 source → Stands source at 92 → begins_with 10 (drop (at + 1) source) ≡ false → (at + 1 < length source → is_ascii_punct (get_or source (at + 1) 0) ≡ false)
       → Begins rules source at read.Text (at + 1)
   backslash-is-text utf8 s feed punct =
+      let nothing : at + 1 + 0 ≡ at + 1 = omega arith in
       text-byte 92 s refl (byte-is 92 (byte_atom 92 (drop (at + 1) source)) utf8 s (omega arith)
       (slash-in (drop (at + 1) source) s refl ∙ escapes-none (drop (at + 1) source) feed
       (λ some. ap is_ascii_punct (get_or-drop (at + 1) source 0 0 ∙ ap (λ n. get_or source n 0) nothing) ∙ punct (omega (arith, some, length-drop (at + 1) source)))) refl refl)
-    where
-      nothing : at + 1 + 0 ≡ at + 1
-      nothing = omega arith
 
   -- a reference, or `&` as text
 
@@ -423,9 +420,8 @@ module _ (rules : Rules) (source : List ℕ) (at : ℕ) where
   -- tildes are of a run only with strikethrough
   known : (m : Marker) (strike two : Bool) (run : delimiters.Run) → run.character ≡ byte_of m → (not (byte_of m == 126) || strike && two) ≡ true → kind run < kinds_with strike
   known m true two run is e = kind-small run
-  known Star false two run is e = kind-untilded run (ap (λ c. c == 126) is)
-  known Underscore false two run is e = kind-untilded run (ap (λ c. c == 126) is)
   known Tilde false two run is e = absurd (cc e)
+  known _ false two run is e = kind-untilded run (ap (λ c. c == 126) is)
 
   abbrev run_read : ℕ → List ℕ → AtomRead
   run_read m text = record { atom = Delimiter (run_between rules m (run_length m (m ∷ text)) (reverse (take at source)) (after_run m (m ∷ text))); rest = after_run m (m ∷ text) }
@@ -443,9 +439,8 @@ module _ (rules : Rules) (source : List ℕ) (at : ℕ) where
 
   marker-read : (m : Marker) (text : List ℕ) → atom_at rules (reverse (take at source)) (byte_of m) text ≡ marker_read (byte_of m) text (is_struck (byte_of m) text)
   unfolding atom_at markup_atom tilde_atom run_atom
-  marker-read Star text = refl
-  marker-read Underscore text = refl
   marker-read Tilde text = tildes-read text (rules.strike && run_length 126 (126 ∷ text) == 2)
+  marker-read _ text = refl
 
   marker-in : (m : Marker) → Stands source at (byte_of m) → atom_in rules source at ≡ marker_read (byte_of m) (drop (at + 1) source) (is_struck (byte_of m) (drop (at + 1) source))
   marker-in m s = here rules source at (byte_of m) s ∙ marker-read m (drop (at + 1) source)

@@ -36,11 +36,9 @@ pub closes-nothing : (rules : Rules) (defined : Defined) (source : List ℕ) (it
     → closed_at rules defined source items at ≡ record { items = reverse (items ++ Characters (93 ∷ []) ∷ []); rest = drop (at + 1) source }
 unfolding close_bracket last_opener
 closes-nothing rules defined source items at none =
+    let rest = drop (at + 1) source in
     ap (decided rules defined (reverse items) rest) (ap (λ t. last_opener t []) (sym (append-nil (reverse items))) ∙ no-opener items [] [] none)
     ∙ ap (λ t. record { items = t; rest = rest }) (sym (reverse-append items (Characters (93 ∷ []) ∷ [])))
-  where
-    rest : List ℕ
-    rest = drop (at + 1) source
 
 -- The items with both brackets as text, and with a link or an image of what is between them.
 abbrev pub left_as_text : (outer inner : List Item) → (image : Bool) → List Item

@@ -13,11 +13,7 @@ use Rattle.cm_inline.specs.steps.pairing.Parts.{Pair, PairedRun, starts, ends_be
 use Rattle.cm_inline.specs.steps.Building.{opened, closed}
 use Rattle.cm_inline.specs.steps.Marks.{text_event, texts, stays_text}
 use Rattle.cm_inline.specs.steps.Runs.{byte_of, tag_in, run_of, pairs_in, paired_run}
-
-pub build-append : (m : Built) (fs gs : List Event) → build m (fs ++ gs) ≡ build (build m fs) gs
-unfolding build
-build-append m [] gs = refl
-build-append m (f ∷ fs) gs = build-append (build_one m f) fs gs
+use Rattle.cm_inline.proofs.lemmas.EventLemmas.{build-append}
 
 -- text between marks, without a line feed
 

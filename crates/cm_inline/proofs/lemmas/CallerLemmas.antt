@@ -14,10 +14,13 @@ use Rattle.cm_inline.specs.steps.pairing.Paired.{AreRuns}
 use Rattle.cm_inline.specs.steps.pairing.Segments.{Segment, Waiting, Made, items_in, all_parts, numbers_in, fresh, IsMade, AreSegments}
 use Rattle.cm_inline.specs.steps.pairing.States.{AreChained}
 use Rattle.cm_inline.specs.steps.Runs.{runs_in, pairs_in}
-use Rattle.cm_inline.proofs.lemmas.ClosingLemmas.{events-append, parts-append, under-append}
+use Rattle.cm_inline.proofs.lemmas.ClosingLemmas.{parts-append, under-append}
 use Rattle.cm_inline.proofs.lemmas.KeptLemmas.{segments-more, segments-under}
 use Rattle.cm_inline.proofs.lemmas.NumberLemmas.{nat-split as nat_split}
 use Rattle.cm_inline.proofs.lemmas.SegmentLemmas.{link-means}
+use Rattle.cm_inline.proofs.lemmas.LaidLemmas.{events-append}
+use Rattle.cm_inline.proofs.lemmas.OpenLemmas.{numbers-append}
+use Rattle.cm_inline.proofs.lemmas.StandLemmas.{runs-append}
 
 -- a run is pushed
 
@@ -31,11 +34,7 @@ chained-push runs pairs run c = record { before = c.before; opened = λ n. (at n
     at n = go (below n (length runs))
       where
         below : (a b : ℕ) → (a < b) ⊎ (b ≤ a)
-        below a b = split (nat_lt a b) refl
-          where
-            split : (t : Bool) → nat_lt a b ≡ t → (a < b) ⊎ (b ≤ a)
-            split true e = inl (ltb-true a b e)
-            split false e = inr (ltb-false a b e)
+        below a b = (elim (nat_lt a b) as (λ t. nat_lt a b ≡ t → (a < b) ⊎ (b ≤ a)) [ true ↦ λ e. inl (ltb-true a b e) | false ↦ λ e. inr (ltb-false a b e) ]) refl
 
         last : length runs ≤ n → (n ≡ length runs) ⊎ (n ≡ length runs → ⊥) → ((get_or (runs ++ fresh run ∷ []) n no_paired_run).opened ≤ length pairs) × (((get_or (runs ++ fresh run ∷ []) n no_paired_run).from ≤ (get_or (runs ++ fresh run ∷ []) n no_paired_run).to) × ((get_or (runs ++ fresh run ∷ []) n no_paired_run).to ≤ length pairs))
         last h (inl q) = let is = get_or_push runs (fresh run) no_paired_run n (sym q) in (omega (arith, ap (λ (r : PairedRun). r.opened) is), (omega (arith, ap (λ (r : PairedRun). r.from) is), omega (arith, ap (λ (r : PairedRun). r.to) is)))
@@ -69,26 +68,12 @@ segments-push runs pairs run ss h g =
     (segments-more (λ k. k < length runs) 0 runs (runs ++ fresh run ∷ []) pairs ss (omega (arith, length-append runs (fresh run ∷ []))) (λ k p. get_or_append_left runs (fresh run ∷ []) no_paired_run k p) (segments-under (length runs) 0 runs pairs ss h g) g)
     (h, omega (arith, length-append runs (fresh run ∷ [])), get_or_push runs (fresh run) no_paired_run (length runs) refl, tt)
 
-numbers-append : (ss ts : List Segment) → numbers_in (ss ++ ts) ≡ numbers_in ss ++ numbers_in ts
-unfolding numbers_in
-numbers-append [] ts = refl
-numbers-append (Waiting k run ∷ ss) ts = ap (λ l. k ∷ l) (numbers-append ss ts)
-numbers-append (Made parts item high ∷ ss) ts = numbers-append ss ts
-
-runs-append : (ss ts : List Segment) → AreRuns ss → AreRuns ts → AreRuns (ss ++ ts)
-runs-append [] ts h g = g
-runs-append (Waiting k run ∷ ss) ts h g = (h.0, h.1, runs-append ss ts h.2 g)
-runs-append (Made parts item high ∷ ss) ts h g = runs-append ss ts h g
-
 -- What a pass made of the segments behind the front becomes the content of a link or an image, as one segment.
 
 rising-ended : (low : ℕ) (fs : List Event) (tag : Tag) → Rising low fs → Rising low (fs ++ End tag ∷ [])
 rising-ended low [] tag h = tt
 rising-ended low (Rest n r ∷ fs) tag h = (h.0, rising-ended (suc n) fs tag h.1)
-rising-ended low (Text t ∷ fs) tag h = rising-ended low fs tag h
-rising-ended low (Whole i ∷ fs) tag h = rising-ended low fs tag h
-rising-ended low (Start s ∷ fs) tag h = rising-ended low fs tag h
-rising-ended low (End s ∷ fs) tag h = rising-ended low fs tag h
+rising-ended low (_ ∷ fs) tag h = rising-ended low fs tag h
 
 abbrev pub linked_parts : Tag → List Part → List Part
 linked_parts tag parts = (Known (Start tag ∷ []) ∷ parts) ++ Known (End tag ∷ []) ∷ []
@@ -96,26 +81,19 @@ linked_parts tag parts = (Known (Start tag ∷ []) ∷ parts) ++ Known (End tag 
 pub link-made : (old new : Runs) (front inside : List Segment) (tag : Tag) → AllPaired old new front inside → number_after 0 front ≤ length new.runs.items → IsAlone tag (events_of (runs_in new.runs.items) (pairs_in new.pairs.items) (all_parts inside))
     → IsMade (runs_in new.runs.items) (pairs_in new.pairs.items) (number_after 0 front) (linked_parts tag (all_parts inside)) (Finished (made_of tag (emphasis_of (items_in inside)))) (length new.runs.items)
 unfolding events_of
-link-made old new front inside tag p high alone = record {
-  means = link-means runs pairs parts (items_in inside) tag p.reads alone;
-  other = refl;
-  marked = ((tt, tt), parts-append runs pairs parts (Known (End tag ∷ []) ∷ []) p.parts ((tt, tt), tt));
-  rising = subst (λ fs. Rising low (Start tag ∷ fs)) (sym (events-append runs pairs parts (Known (End tag ∷ []) ∷ []))) (rising-ended low (events_of runs pairs parts) tag p.rising);
-  under = under-append (length new.runs.items) (length new.runs.items) parts (Known (End tag ∷ []) ∷ []) (omega arith) p.under tt;
-  high_is = high;
-}
-  where
-    runs : List PairedRun
-    runs = runs_in new.runs.items
-
-    pairs : List Pair
-    pairs = pairs_in new.pairs.items
-
-    parts : List Part
-    parts = all_parts inside
-
-    low : ℕ
-    low = number_after 0 front
+link-made old new front inside tag p high alone =
+    let runs = runs_in new.runs.items in
+    let pairs = pairs_in new.pairs.items in
+    let parts = all_parts inside in
+    let low = number_after 0 front in
+    record {
+      means = link-means runs pairs parts (items_in inside) tag p.reads alone;
+      other = refl;
+      marked = ((tt, tt), parts-append runs pairs parts (Known (End tag ∷ []) ∷ []) p.parts ((tt, tt), tt));
+      rising = subst (λ fs. Rising low (Start tag ∷ fs)) (sym (events-append runs pairs parts (Known (End tag ∷ []) ∷ []))) (rising-ended low (events_of runs pairs parts) tag p.rising);
+      under = under-append (length new.runs.items) (length new.runs.items) parts (Known (End tag ∷ []) ∷ []) (omega arith) p.under tt;
+      high_is = high;
+    }
 
 -- an image that holds a link stands for the same
 pub made-linked : (runs : List PairedRun) (pairs : List Pair) (low : ℕ) (parts : List Part) (inline : Inline) (high : ℕ) → IsMade runs pairs low parts (Finished inline) high → IsMade runs pairs low parts (Linked inline) high

@@ -35,7 +35,6 @@ use Rattle.cm_inline.specs.steps.Reads.{Stands}
 use Rattle.cm_inline.specs.steps.Runs.{runs_in, pairs_in, pair_in, tag_in}
 use Rattle.cm_inline.proofs.lemmas.BracketLemmas.{closes-opener, link_made, closed_or}
 use Rattle.cm_inline.proofs.lemmas.CallerLemmas.{behind-append, segments-append, linked_parts, link-made, made-linked}
-use Rattle.cm_inline.proofs.lemmas.ClosingLemmas.{events-append}
 use Rattle.cm_inline.proofs.lemmas.KeptLemmas.{behind-after}
 use Rattle.cm_inline.proofs.lemmas.PassLemmas.{rising-lower}
 use Rattle.cm_inline.proofs.lemmas.JoinLemmas.{Later, laid-join, laid-later, parts-join, parts-later, parts-one}
@@ -47,6 +46,7 @@ use Rattle.cm_inline.proofs.lemmas.ReadingLemmas.{starts-append}
 use Rattle.cm_inline.proofs.lemmas.RightBracketLemmas.{goes-on, old-items, both, low, left-runs}
 use Rattle.cm_inline.proofs.lemmas.SliceLemmas.{slice-none}
 use Rattle.cm_inline.proofs.lemmas.StandLemmas.{segments-split, runs-append}
+use Rattle.cm_inline.proofs.lemmas.LaidLemmas.{events-append}
 
 pub or-none : (u : Bool) → u || false ≡ u
 or-none true = refl
@@ -64,8 +64,7 @@ held-plain n (p ∷ ps) = (go p.emphasis, held-plain n ps)
   where
     go : (e : Emphasis) → is_number n (tag_in e) ≡ false
     go Emphasis.Emph = refl
-    go Emphasis.Strong = refl
-    go Emphasis.Strike = refl
+    go _ = refl
 
 plain-take : (n k : ℕ) (ps : List Pair) → ArePlain n ps → ArePlain n (take k ps)
 plain-take n zero ps h = tt
@@ -113,18 +112,10 @@ not-equal k n h = grind (arith, nat_tests, h)
 
 free-mark : (source : List ℕ) (targets : Targets) (held : List HeldRun) (links : List Link) (n : ℕ) (runs : List PairedRun) (ps : List HeldPair) (at end : ℕ) (kind : Kind) → length links ≤ n → IsOfKind source targets held links at end kind
     → AreFree n (part_events runs (pairs_in ps) (part_of_kind source targets links at end kind))
-free-mark source targets held links n runs ps at end kinds.Plain high is = (tt, tt)
-free-mark source targets held links n runs ps at end kinds.Escaped high is = (tt, tt)
 free-mark source targets held links n runs ps at end kinds.Nothing high is = tt
-free-mark source targets held links n runs ps at end (kinds.Character c) high is = (tt, tt)
-free-mark source targets held links n runs ps at end (kinds.Code from to) high is = (tt, tt)
-free-mark source targets held links n runs ps at end kinds.Html high is = (tt, tt)
-free-mark source targets held links n runs ps at end (kinds.Autolink is_address) high is = (tt, tt)
-free-mark source targets held links n runs ps at end kinds.Soft high is = (tt, tt)
-free-mark source targets held links n runs ps at end kinds.Hard high is = (tt, tt)
 free-mark source targets held links n runs ps at end (kinds.Run number) high is = free-run n number ps (get_or runs number no_paired_run)
-free-mark source targets held links n runs ps at end (kinds.Start number) high is = (tt, tt)
 free-mark source targets held links n runs ps at end (kinds.End number) high is = (not-equal number n (omega (arith, is.known, high)), tt)
+free-mark source targets held links n runs ps at end _ high is = (tt, tt)
 
 free-marks : (lines : Bool) (source : List ℕ) (targets : Targets) (held : List HeldRun) (links : List Link) (n : ℕ) (runs : List PairedRun) (ps : List HeldPair) (from to : ℕ) (ms : List Mark) → length links ≤ n → AreLaid lines source targets held links from to ms
     → AreFree n (events_of runs (pairs_in ps) (parts_between source targets links from to ms))
@@ -159,19 +150,13 @@ link-item runs pairs low parts high n true dest title inner m = go (holds_link i
 
 link-linked : (image : Bool) (dest title : List ℕ) (inner : List Item) → is_linked (made image dest title inner) ≡ not image || holds_link inner
 link-linked false dest title inner = refl
-link-linked true dest title inner = go (holds_link inner)
-  where
-    go : (v : Bool) → is_linked (if v then Linked (inlines.Image dest title (emphasis_of inner)) else Finished (inlines.Image dest title (emphasis_of inner))) ≡ v
-    go true = refl
-    go false = refl
+link-linked true dest title inner =
+    elim (holds_link inner) as (λ v. is_linked (if v then Linked (inlines.Image dest title (emphasis_of inner)) else Finished (inlines.Image dest title (emphasis_of inner))) ≡ v) [ true ↦ refl | false ↦ refl ]
 
 link-closed : (image : Bool) (dest title : List ℕ) (inner : List Item) → is_opener (made image dest title inner) ≡ false
 link-closed false dest title inner = refl
-link-closed true dest title inner = go (holds_link inner)
-  where
-    go : (v : Bool) → is_opener (if v then Linked (inlines.Image dest title (emphasis_of inner)) else Finished (inlines.Image dest title (emphasis_of inner))) ≡ false
-    go true = refl
-    go false = refl
+link-closed true dest title inner =
+    elim (holds_link inner) as (λ v. is_opener (if v then Linked (inlines.Image dest title (emphasis_of inner)) else Finished (inlines.Image dest title (emphasis_of inner))) ≡ false) [ true ↦ refl | false ↦ refl ]
 
 -- A link or an image was made of the last bracket and of all that is behind it.
 pub record IsLinked (source : List ℕ) (at end : ℕ) (old new : Reader) (b : Bracket) (target : PlacedTarget) : Type 0 where

@@ -31,26 +31,17 @@ AreHeld runs (f ∷ fs) = AreHeld runs fs
 held-none : (runs : List PairedRun) (fs : List Event) → HaveNoRun fs → AreHeld runs fs
 held-none runs [] h = tt
 held-none runs (Rest n r ∷ fs) h = absurd h.0
-held-none runs (Text t ∷ fs) h = held-none runs fs h.1
-held-none runs (Whole i ∷ fs) h = held-none runs fs h.1
-held-none runs (Start s ∷ fs) h = held-none runs fs h.1
-held-none runs (End s ∷ fs) h = held-none runs fs h.1
+held-none runs (_ ∷ fs) h = held-none runs fs h.1
 
 held-append : (runs : List PairedRun) (fs gs : List Event) → AreHeld runs fs → AreHeld runs gs → AreHeld runs (fs ++ gs)
 held-append runs [] gs h g = g
 held-append runs (Rest n r ∷ fs) gs h g = (h.0, held-append runs fs gs h.1 g)
-held-append runs (Text t ∷ fs) gs h g = held-append runs fs gs h g
-held-append runs (Whole i ∷ fs) gs h g = held-append runs fs gs h g
-held-append runs (Start s ∷ fs) gs h g = held-append runs fs gs h g
-held-append runs (End s ∷ fs) gs h g = held-append runs fs gs h g
+held-append runs (_ ∷ fs) gs h g = held-append runs fs gs h g
 
 held-at : (runs : List PairedRun) (fs gs : List Event) (n : ℕ) (r : Run) → AreHeld runs (fs ++ Rest n r ∷ gs) → r ≡ (get_or runs n no_paired_run).run
 held-at runs [] gs n r h = h.0
 held-at runs (Rest k q ∷ fs) gs n r h = held-at runs fs gs n r h.1
-held-at runs (Text t ∷ fs) gs n r h = held-at runs fs gs n r h
-held-at runs (Whole i ∷ fs) gs n r h = held-at runs fs gs n r h
-held-at runs (Start s ∷ fs) gs n r h = held-at runs fs gs n r h
-held-at runs (End s ∷ fs) gs n r h = held-at runs fs gs n r h
+held-at runs (_ ∷ fs) gs n r h = held-at runs fs gs n r h
 
 held-parts : (runs : List PairedRun) (pairs : List Pair) (ms : List Part) → AreParts runs pairs ms → AreHeld runs (events_of runs pairs ms)
 unfolding events_of
@@ -96,28 +87,26 @@ pub made-pair : (new now : Runs) (bs : List ℕ) (k : ℕ) (c : Run) (e : Entry)
     → now.openers.entries ≡ leaving (e.run.left - used e.run c) openers.entries → now.openers.looks ≡ openers.looks
     → pairs_in now.pairs.items ≡ with_pair (tag_of c.character (used e.run c)) e.place (runs_in new.runs.items) (pairs_in new.pairs.items)
     → now.runs.items ≡ with_left e.place (e.run.left - used e.run c) (length new.pairs.items + 1) new.runs.items → now.waiting.items ≡ new.waiting.items → MadePair new now bs c e
-made-pair new now bs k c e openers same within f left looks entries steady pairs runs waiting = record {
-  found = found;
-  makes = record {
-    within = within;
-    entries = entries ∙ ap (leaving (e.run.left - used e.run c)) (left ∙ ap (λ b. from_found c b new.openers.entries) bottom ∙ found.left);
-    looks_are = steady ∙ looks ∙ ap (λ b. new.openers.looks + looks_for c b new.openers.entries) bottom;
-    pairs = pairs;
-    runs = runs;
-    waiting = waiting;
-  };
-}
-  where
-    bottom : get_or bs k 0 ≡ get_or bs (kind c) 0
-    bottom = ap (λ j. get_or bs j 0) same
-
-    found : FoundBy c (get_or bs (kind c) 0) new.openers.entries e
-    found = find-found c (get_or bs (kind c) 0) new.openers.entries e (sym (ap (λ b. find_opener c b new.openers.entries) bottom) ∙ f)
+made-pair new now bs k c e openers same within f left looks entries steady pairs runs waiting =
+    let bottom = ap (λ j. get_or bs j 0) same in
+    let found = find-found c (get_or bs (kind c) 0) new.openers.entries e (sym (ap (λ b. find_opener c b new.openers.entries) bottom) ∙ f) in
+    record {
+      found = found;
+      makes = record {
+        within = within;
+        entries = entries ∙ ap (leaving (e.run.left - used e.run c)) (left ∙ ap (λ b. from_found c b new.openers.entries) bottom ∙ found.left);
+        looks_are = steady ∙ looks ∙ ap (λ b. new.openers.looks + looks_for c b new.openers.entries) bottom;
+        pairs = pairs;
+        runs = runs;
+        waiting = waiting;
+      };
+    }
 
 pub going-pairs : (parts : List Part) (old : State) (run c : Run) (had : List Item) (new now : Runs) (bs : List ℕ) (number left : ℕ) (e : Entry) → c.closes ≡ true → CloserGoesOn parts old run had (state_of new bs number) c
     → (g : FoundBy c (get_or bs (kind c) 0) new.openers.entries e) → MakesPair c e g.below (looks_for c (get_or bs (kind c) 0) new.openers.entries) (tag_of c.character (used e.run c)) new now
     → left + used e.run c ≡ c.left → 1 ≤ left → CloserGoesOn parts old run had (state_of now bs number) (record c { left = left })
 going-pairs parts old run c had new now bs number left e h go g m less some =
+    let rest = ap (λ k. Delimiters (record c { left = k }) ∷ []) (omega (arith, less)) ∙ sym (cond-false (nat_le c.left n) [] (Delimiters (taken n c) ∷ []) (more (nat_le c.left n) refl)) in
     subst (λ s. CloserGoesOn parts old run had s (record c { left = left })) (sym (pair-state new now bs number c e g m (held-run parts (length old.pairs) c (state_of new bs number) go.before e go.closing.holds g)))
     (closing-further parts old run c (record c { left = left }) had (state_of new bs number) e h go g rest refl)
   where
@@ -127,9 +116,6 @@ going-pairs parts old run c had new now bs number left e h go g m less some =
     more : (b : Bool) → nat_le c.left n ≡ b → nat_le c.left n ≡ false
     more true k = let few : c.left ≤ n = leb-true c.left n k in absurd (omega (arith, few, less, some))
     more false k = k
-
-    rest : Delimiters (record c { left = left }) ∷ [] ≡ without n c
-    rest = ap (λ k. Delimiters (record c { left = k }) ∷ []) (omega (arith, less)) ∙ sym (cond-false (nat_le c.left n) [] (Delimiters (taken n c) ∷ []) (more (nat_le c.left n) refl))
 
 pub done-pairs : (parts : List Part) (old : State) (run c : Run) (had : List Item) (new now : Runs) (bs : List ℕ) (number : ℕ) (e : Entry) → c.closes ≡ true → CloserGoesOn parts old run had (state_of new bs number) c
     → (g : FoundBy c (get_or bs (kind c) 0) new.openers.entries e) → MakesPair c e g.below (looks_for c (get_or bs (kind c) 0) new.openers.entries) (tag_of c.character (used e.run c)) new now
@@ -166,17 +152,13 @@ steps-search-fails old new had bs number k c openers same s none e looks =
 pub put-closed : (parts : List Part) (old : State) (run : Run) (had : List Item) (mid : Runs) (bs : List ℕ) (number left : ℕ) (x : HeldRun) → number < length mid.runs.items → CloserDone parts old run had (state_of mid bs number) left
     → run_of x.run ≡ record run { left = left } → x.opened ≡ 0 → x.from ≡ length old.pairs → x.to ≡ length mid.pairs.items → PartAdded parts old run had (record (state_of mid bs number) { runs = runs_in (set mid.runs.items number x) }) number left
 put-closed parts old run had mid bs number left x within d is none from to =
-    subst (λ rs. PartAdded parts old run had (record (state_of mid bs number) { runs = rs }) number left) (sym runs) (put-finished parts old number left run had s (omega (arith, within, length-map mid.runs.items paired_run)) refl d)
-  where
-    s : State
-    s = state_of mid bs number
-
-    runs : runs_in (set mid.runs.items number x) ≡ set (runs_in mid.runs.items) number (closed_run (record run { left = left }) (length old.pairs) (length (pairs_in mid.pairs.items)))
-    runs = map-set paired_run mid.runs.items number x
+    let s = state_of mid bs number in
+    let runs = map-set paired_run mid.runs.items number x
         ∙ ap (λ (q : Run). set (runs_in mid.runs.items) number (record { run = q; opened = x.opened; from = x.from; to = x.to })) is
         ∙ ap (λ k. set (runs_in mid.runs.items) number (record { run = record run { left = left }; opened = k; from = x.from; to = x.to })) none
         ∙ ap (λ k. set (runs_in mid.runs.items) number (closed_run (record run { left = left }) k x.to)) from
-        ∙ ap (λ k. set (runs_in mid.runs.items) number (closed_run (record run { left = left }) (length old.pairs) k)) (to ∙ sym (length-map mid.pairs.items pair_in))
+        ∙ ap (λ k. set (runs_in mid.runs.items) number (closed_run (record run { left = left }) (length old.pairs) k)) (to ∙ sym (length-map mid.pairs.items pair_in)) in
+    subst (λ rs. PartAdded parts old run had (record (state_of mid bs number) { runs = rs }) number left) (sym runs) (put-finished parts old number left run had s (omega (arith, within, length-map mid.runs.items paired_run)) refl d)
 
 -- the pass goes on behind a run of which nothing is left, or that doesn't open
 pub next-rest : (parts : List Part) (old : State) (run : Run) (had : List Item) (new : Runs) (bs : List ℕ) (number left : ℕ) → (run.opens ≡ false) ⊎ (left ≡ 0) → PartAdded parts old run had (state_of new bs number) number left

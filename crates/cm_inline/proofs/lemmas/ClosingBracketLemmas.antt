@@ -30,10 +30,11 @@ use Rattle.cm_inline.proofs.lemmas.ClosedLinkLemmas.{before, inside, awaits, aga
 use Rattle.cm_inline.proofs.lemmas.DeeperLemmas.{made-depth}
 use Rattle.cm_inline.proofs.lemmas.JoinLemmas.{laid-low}
 use Rattle.cm_inline.proofs.lemmas.OpenLemmas.{numbers-append}
-use Rattle.cm_inline.proofs.lemmas.PairDepthLemmas.{both, reverse-depth, settled-items}
+use Rattle.cm_inline.proofs.lemmas.PairDepthLemmas.{reverse-depth, settled-items}
 use Rattle.cm_inline.proofs.lemmas.PaysLemmas.{pays-few}
 use Rattle.cm_inline.proofs.lemmas.RightBracketLemmas.{old-items}
 use Rattle.cm_inline.proofs.lemmas.WholeLemmas.{closed-deeper, nests-ahead}
+use Rattle.cm_inline.proofs.lemmas.InlineDepthLemmas.{both}
 
 -- a `[` before the place behind an opener
 pub left-bracket : (source : List ℕ) (image : Bool) (at behind : ℕ) → IsOpener source image at behind → (0 < behind) × (get_or source (behind - 1) 0 ≡ 91)
@@ -67,11 +68,8 @@ waiting-rise low runs pairs (Made parts item high ∷ ss) h = numbers-from low h
 -- and pay for as many looks as their items
 
 other-pays : (item : Item) → is_run item ≡ false → allowed all_kinds item ≡ 0
-other-pays (Characters text) e = refl
-other-pays (Finished inline) e = refl
-other-pays (Linked inline) e = refl
 other-pays (Delimiters run) e = absurd (cc e)
-other-pays (Opener image source) e = refl
+other-pays _ e = refl
 
 waiting-pay : (low : ℕ) (runs : List HeldRun) (pairs : List Pair) (ss : List Segment) → AreSegments (runs_in runs) pairs low ss → paid_by runs (numbers_in ss) ≡ allowance all_kinds (items_in ss)
 unfolding numbers_in items_in

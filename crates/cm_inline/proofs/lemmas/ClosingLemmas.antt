@@ -27,47 +27,33 @@ use Rattle.cm_inline.proofs.lemmas.PartLemmas.{ends-none, chain-none, pair-writt
 use Rattle.cm_inline.proofs.lemmas.ReadingLemmas.{starts-append}
 use Rattle.cm_inline.proofs.lemmas.StackLemmas.{pair_events}
 use Rattle.cm_inline.proofs.lemmas.WaitLemmas.{Pairs, after_pair, waits-pairs, Fails, with_looks, waits-fails, passed_by, waits-opener, waits-text, waits-gone}
+use Rattle.cm_inline.proofs.lemmas.LaidLemmas.{events-append}
 
 -- the numbers stay
 rising-put : (low number count n : ℕ) (tag : Tag) (r : Run) (fs : List Event) → low ≤ n → Rising (suc n) fs → Rising low (opened_event number count tag (Rest n r) ++ fs)
-rising-put low number count n tag r fs h g = go (n == number)
-  where
-    go : (b : Bool) → Rising low (cond b (Rest n (taken count r) ∷ Start tag ∷ []) (Rest n r ∷ []) ++ fs)
-    go true = (h, g)
-    go false = (h, g)
+rising-put low number count n tag r fs h g =
+    elim (n == number) as (λ b. Rising low (cond b (Rest n (taken count r) ∷ Start tag ∷ []) (Rest n r ∷ []) ++ fs)) [ true ↦ (h, g) | false ↦ (h, g) ]
 
 pub rising-open : (low number count : ℕ) (tag : Tag) (fs : List Event) → Rising low fs → Rising low (open_at number count tag fs)
 unfolding open_at
 rising-open low number count tag [] h = tt
 rising-open low number count tag (Rest n r ∷ fs) h = rising-put low number count n tag r (open_at number count tag fs) h.0 (rising-open (suc n) number count tag fs h.1)
-rising-open low number count tag (Text t ∷ fs) h = rising-open low number count tag fs h
-rising-open low number count tag (Whole i ∷ fs) h = rising-open low number count tag fs h
-rising-open low number count tag (Start s ∷ fs) h = rising-open low number count tag fs h
-rising-open low number count tag (End s ∷ fs) h = rising-open low number count tag fs h
+rising-open low number count tag (_ ∷ fs) h = rising-open low number count tag fs h
 
 rising-none : (low : ℕ) (fs : List Event) → HaveNoRun fs → Rising low fs
 rising-none low [] h = tt
 rising-none low (Rest n r ∷ fs) h = absurd h.0
-rising-none low (Text t ∷ fs) h = rising-none low fs h.1
-rising-none low (Whole i ∷ fs) h = rising-none low fs h.1
-rising-none low (Start s ∷ fs) h = rising-none low fs h.1
-rising-none low (End s ∷ fs) h = rising-none low fs h.1
+rising-none low (_ ∷ fs) h = rising-none low fs h.1
 
 rising-more : (low : ℕ) (fs gs : List Event) → Rising low fs → HaveNoRun gs → Rising low (fs ++ gs)
 rising-more low [] gs h g = rising-none low gs g
 rising-more low (Rest n r ∷ fs) gs h g = (h.0, rising-more (suc n) fs gs h.1 g)
-rising-more low (Text t ∷ fs) gs h g = rising-more low fs gs h g
-rising-more low (Whole i ∷ fs) gs h g = rising-more low fs gs h g
-rising-more low (Start s ∷ fs) gs h g = rising-more low fs gs h g
-rising-more low (End s ∷ fs) gs h g = rising-more low fs gs h g
+rising-more low (_ ∷ fs) gs h g = rising-more low fs gs h g
 
 pub rising-front : (low : ℕ) (fs gs : List Event) → Rising low (fs ++ gs) → Rising low fs
 rising-front low [] gs h = tt
 rising-front low (Rest n r ∷ fs) gs h = (h.0, rising-front (suc n) fs gs h.1)
-rising-front low (Text t ∷ fs) gs h = rising-front low fs gs h
-rising-front low (Whole i ∷ fs) gs h = rising-front low fs gs h
-rising-front low (Start s ∷ fs) gs h = rising-front low fs gs h
-rising-front low (End s ∷ fs) gs h = rising-front low fs gs h
+rising-front low (_ ∷ fs) gs h = rising-front low fs gs h
 
 -- parts stay well made
 run-kept : (number count n : ℕ) (tag : Tag) (runs : List PairedRun) (pairs : List Pair) → n < length runs → (get_or runs n no_run).opened ≤ length pairs → (get_or runs n no_run).to ≤ length pairs
@@ -122,43 +108,30 @@ last-inside before (item ∷ inside) low r e = omega (arith, ap last_depth e)
 
 pub holds-pairs : (parts : List Part) (first : ℕ) (c : Run) (s : State) (before : List Item) (e : Entry) → PartsHold parts first s before → (g : FoundBy c (get_or s.bottoms (kind c) 0) s.list.entries e)
     → Pairing parts first c s (pair_written c e (looks_for c (get_or s.bottoms (kind c) 0) s.list.entries) g.below s) before e
-holds-pairs parts first c s before e w g = record {
-  low = p.found.low;
-  inside = reverse p.found.inside;
-  nearest = p.nearest;
-  holds = record {
-    waits = subst (λ fs. WaitAsOpeners fs (reverse (up_to_pair (opened_at e.run p.found.low (reverse p.found.inside)) c)) new.list s.bottoms) (sym written) p.waits;
-    marked = parts-kept e.place count tag s.runs s.pairs parts w.marked;
-    under = w.under;
-    rising = rising-more 0 (events_of new.runs new.pairs parts) (ends (drop first new.pairs)) (subst (Rising 0) (sym opened) (rising-open 0 e.place count tag (events_of s.runs s.pairs parts) rising)) (ends-none (drop first new.pairs));
-    early = omega (arith, w.early, length-append s.pairs (record { tag = tag; before = (get_or s.runs e.place no_run).opened } ∷ []));
-  };
-  paid = p.paid;
-  made = p.made;
-  nested = omega (arith, last-inside before p.found.inside p.found.low e.run p.found.whole, reverse-depth p.found.inside);
-  starts = omega (arith, ap starts_in opened, open-starts 0 e.place count tag (events_of s.runs s.pairs parts) rising, length-append s.pairs (record { tag = tag; before = (get_or s.runs e.place no_run).opened } ∷ []));
-}
-  where
-    count : ℕ
-    count = used e.run c
-
-    tag : Tag
-    tag = tag_of c.character count
-
-    p : Pairs (so_far parts first s) before c e s.list (after_pair c e (looks_for c (get_or s.bottoms (kind c) 0) s.list.entries) g.below s.list) s.bottoms
-    p = waits-pairs (so_far parts first s) before c e s.list s.bottoms w.waits g
-
-    new : State
-    new = pair_written c e (looks_for c (get_or s.bottoms (kind c) 0) s.list.entries) g.below s
-
-    written : so_far parts first new ≡ pair_events c e p.below (so_far parts first s) before p.found
-    written = pair-events-written c e p.below before s.runs s.pairs parts first w.marked w.early p.found w.rising
-
-    opened : events_of new.runs new.pairs parts ≡ open_at e.place count tag (events_of s.runs s.pairs parts)
-    opened = pair-written e.place count tag s.runs s.pairs parts w.marked
-
-    rising : Rising 0 (events_of s.runs s.pairs parts)
-    rising = rising-front 0 (events_of s.runs s.pairs parts) (ends (drop first s.pairs)) w.rising
+holds-pairs parts first c s before e w g =
+    let count = used e.run c in
+    let tag = tag_of c.character count in
+    let p = waits-pairs (so_far parts first s) before c e s.list s.bottoms w.waits g in
+    let new = pair_written c e (looks_for c (get_or s.bottoms (kind c) 0) s.list.entries) g.below s in
+    let opened = pair-written e.place count tag s.runs s.pairs parts w.marked in
+    let rising = rising-front 0 (events_of s.runs s.pairs parts) (ends (drop first s.pairs)) w.rising in
+    let written = pair-events-written c e p.below before s.runs s.pairs parts first w.marked w.early p.found w.rising in
+    record {
+      low = p.found.low;
+      inside = reverse p.found.inside;
+      nearest = p.nearest;
+      holds = record {
+        waits = subst (λ fs. WaitAsOpeners fs (reverse (up_to_pair (opened_at e.run p.found.low (reverse p.found.inside)) c)) new.list s.bottoms) (sym written) p.waits;
+        marked = parts-kept e.place count tag s.runs s.pairs parts w.marked;
+        under = w.under;
+        rising = rising-more 0 (events_of new.runs new.pairs parts) (ends (drop first new.pairs)) (subst (Rising 0) (sym opened) (rising-open 0 e.place count tag (events_of s.runs s.pairs parts) rising)) (ends-none (drop first new.pairs));
+        early = omega (arith, w.early, length-append s.pairs (record { tag = tag; before = (get_or s.runs e.place no_run).opened } ∷ []));
+      };
+      paid = p.paid;
+      made = p.made;
+      nested = omega (arith, last-inside before p.found.inside p.found.low e.run p.found.whole, reverse-depth p.found.inside);
+      starts = omega (arith, ap starts_in opened, open-starts 0 e.place count tag (events_of s.runs s.pairs parts) rising, length-append s.pairs (record { tag = tag; before = (get_or s.runs e.place no_run).opened } ∷ []));
+    }
 
 -- the loop of a closer: it begins with no pair
 pub closing-begins : (parts : List Part) (s : State) (run : Run) (before : List Item) → PartsHold parts (length s.pairs) s before → CloserGoesOn parts s run before s run
@@ -177,35 +150,28 @@ last-made found c =
 -- a pair that leaves something of the closer
 pub closing-further : (parts : List Part) (old : State) (run c rest : Run) (had : List Item) (s : State) (e : Entry) → c.closes ≡ true → CloserGoesOn parts old run had s c → (g : FoundBy c (get_or s.bottoms (kind c) 0) s.list.entries e)
     → Delimiters rest ∷ [] ≡ without (used e.run c) c → record c { left = rest.left } ≡ rest → CloserGoesOn parts old run had (pair_written c e (looks_for c (get_or s.bottoms (kind c) 0) s.list.entries) g.below s) rest
-closing-further parts old run c rest had s e h go g left is = record {
-  before = now;
-  closing = record {
-    holds = p.holds;
-    same = ap with_left w.same ∙ is;
-    goes = sym (pass-further go.before c rest found h p.nearest left) ∙ w.goes;
-    paid = λ kinds known. omega (arith, p.paid kinds, w.paid kinds known);
-    made = omega (arith, w.made, p.made, pair-holds go.before c found p.nearest, reversed-hold (up_to_pair found c));
-    next = w.next;
-    long = length-set s.runs e.place _ ∙ w.long;
-    starts = omega (arith, w.starts, p.starts);
-  };
-  nested = omega (arith, go.nested, p.nested, last-made found c, length-append s.pairs (record { tag = tag_of c.character (used e.run c); before = (get_or s.runs e.place no_run).opened } ∷ []));
-}
+closing-further parts old run c rest had s e h go g left is =
+    let w = go.closing in
+    let p = holds-pairs parts (length old.pairs) c s go.before e w.holds g in
+    let found = opened_at e.run p.low p.inside in
+    let now = reverse (up_to_pair found c) in
+    record {
+      before = now;
+      closing = record {
+        holds = p.holds;
+        same = ap with_left w.same ∙ is;
+        goes = sym (pass-further go.before c rest found h p.nearest left) ∙ w.goes;
+        paid = λ kinds known. omega (arith, p.paid kinds, w.paid kinds known);
+        made = omega (arith, w.made, p.made, pair-holds go.before c found p.nearest, reversed-hold (up_to_pair found c));
+        next = w.next;
+        long = length-set s.runs e.place _ ∙ w.long;
+        starts = omega (arith, w.starts, p.starts);
+      };
+      nested = omega (arith, go.nested, p.nested, last-made found c, length-append s.pairs (record { tag = tag_of c.character (used e.run c); before = (get_or s.runs e.place no_run).opened } ∷ []));
+    }
   where
-    w : Closing parts old run had s c go.before
-    w = go.closing
-
-    p : Pairing parts (length old.pairs) c s (pair_written c e (looks_for c (get_or s.bottoms (kind c) 0) s.list.entries) g.below s) go.before e
-    p = holds-pairs parts (length old.pairs) c s go.before e w.holds g
-
     with_left : Run → Run
     with_left r = record r { left = rest.left }
-
-    found : Opened
-    found = opened_at e.run p.low p.inside
-
-    now : List Item
-    now = reverse (up_to_pair found c)
 
 -- so many pairs of one closer nest so deep
 pub closing-deep : (parts : List Part) (old : State) (run c : Run) (had : List Item) (s : State) (e : Entry) → c.closes ≡ true → CloserGoesOn parts old run had s c → FoundBy c (get_or s.bottoms (kind c) 0) s.list.entries e
@@ -217,32 +183,24 @@ closing-deep parts old run c had s e h go g =
 -- a pair that leaves nothing of it
 pub closing-ends : (parts : List Part) (old : State) (run c : Run) (had : List Item) (s : State) (e : Entry) → c.closes ≡ true → CloserGoesOn parts old run had s c → (g : FoundBy c (get_or s.bottoms (kind c) 0) s.list.entries e) → [] ≡ without (used e.run c) c
     → CloserDone parts old run had (pair_written c e (looks_for c (get_or s.bottoms (kind c) 0) s.list.entries) g.below s) 0
-closing-ends parts old run c had s e h go g left = record {
-  before = reverse (up_to_pair found c);
-  rest = [];
-  holds = p.holds;
-  goes = sym (pass-ends go.before c found h p.nearest left) ∙ w.goes;
-  rest_is = refl;
-  paid = λ kinds known. omega (arith, p.paid kinds, w.paid kinds known);
-  made = omega (arith, w.made, p.made, pair-holds go.before c found p.nearest, reversed-hold (up_to_pair found c));
-  starts = omega (arith, w.starts, p.starts);
-}
-  where
-    w : Closing parts old run had s c go.before
-    w = go.closing
-
-    p : Pairing parts (length old.pairs) c s (pair_written c e (looks_for c (get_or s.bottoms (kind c) 0) s.list.entries) g.below s) go.before e
-    p = holds-pairs parts (length old.pairs) c s go.before e w.holds g
-
-    found : Opened
-    found = opened_at e.run p.low p.inside
+closing-ends parts old run c had s e h go g left =
+    let w = go.closing in
+    let p = holds-pairs parts (length old.pairs) c s go.before e w.holds g in
+    let found = opened_at e.run p.low p.inside in
+    record {
+      before = reverse (up_to_pair found c);
+      rest = [];
+      holds = p.holds;
+      goes = sym (pass-ends go.before c found h p.nearest left) ∙ w.goes;
+      rest_is = refl;
+      paid = λ kinds known. omega (arith, p.paid kinds, w.paid kinds known);
+      made = omega (arith, w.made, p.made, pair-holds go.before c found p.nearest, reversed-hold (up_to_pair found c));
+      starts = omega (arith, w.starts, p.starts);
+    }
 
 not-none : (n : ℕ) → 1 ≤ n → nat_le n 0 ≡ false
-not-none n p = go (nat_le n 0) refl
-  where
-    go : (b : Bool) → nat_le n 0 ≡ b → nat_le n 0 ≡ false
-    go true h = let few : n ≤ 0 = leb-true n 0 h in absurd (omega (arith, few, p))
-    go false h = h
+not-none n p =
+    (elim (nat_le n 0) as (λ b. nat_le n 0 ≡ b → nat_le n 0 ≡ false) [ true ↦ λ h. let few : n ≤ 0 = leb-true n 0 h in absurd (omega (arith, few, p)) | false ↦ λ h. h ]) refl
 
 -- no opener is left: its bottom is raised
 abbrev pub raised : Run → State → State
@@ -250,22 +208,19 @@ raised c s = record { runs = s.runs; pairs = s.pairs; list = with_looks s.list (
 
 pub closing-fails : (parts : List Part) (old : State) (run c : Run) (had : List Item) (s : State) → IsMarked c → c.closes ≡ true → 1 ≤ c.left → CloserGoesOn parts old run had s c
     → find_opener c (get_or s.bottoms (kind c) 0) s.list.entries ≡ None → CloserDone parts old run had (raised c s) c.left
-closing-fails parts old run c had s m h some go none = record {
-  before = go.before;
-  rest = Delimiters c ∷ [];
-  holds = record { waits = f.waits; marked = w.holds.marked; under = w.holds.under; rising = w.holds.rising; early = w.holds.early };
-  goes = sym (pass-stays go.before c (inr f.nearest)) ∙ w.goes;
-  rest_is = ap (λ r. Delimiters r ∷ []) (sym w.same) ∙ sym (cond-false (nat_le c.left 0) [] (Delimiters (record run { left = c.left }) ∷ []) (not-none c.left some));
-  paid = λ kinds known. omega (arith, f.paid kinds (omega (arith, known, same-kind c.left run c w.same)), w.paid kinds known);
-  made = omega (arith, w.made);
-  starts = w.starts;
-}
-  where
-    w : Closing parts old run had s c go.before
-    w = go.closing
-
-    f : Fails (so_far parts (length old.pairs) s) go.before c s.list (with_looks s.list (looks_for c (get_or s.bottoms (kind c) 0) s.list.entries)) s.bottoms
-    f = waits-fails (so_far parts (length old.pairs) s) go.before c s.list s.bottoms w.holds.waits m h none
+closing-fails parts old run c had s m h some go none =
+    let w = go.closing in
+    let f = waits-fails (so_far parts (length old.pairs) s) go.before c s.list s.bottoms w.holds.waits m h none in
+    record {
+      before = go.before;
+      rest = Delimiters c ∷ [];
+      holds = record { waits = f.waits; marked = w.holds.marked; under = w.holds.under; rising = w.holds.rising; early = w.holds.early };
+      goes = sym (pass-stays go.before c (inr f.nearest)) ∙ w.goes;
+      rest_is = ap (λ r. Delimiters r ∷ []) (sym w.same) ∙ sym (cond-false (nat_le c.left 0) [] (Delimiters (record run { left = c.left }) ∷ []) (not-none c.left some));
+      paid = λ kinds known. omega (arith, f.paid kinds (omega (arith, known, same-kind c.left run c w.same)), w.paid kinds known);
+      made = omega (arith, w.made);
+      starts = w.starts;
+    }
 
 pub drop-all : (ps : List Pair) → drop (length ps) ps ≡ []
 drop-all [] = refl
@@ -281,11 +236,6 @@ so-far-starts : (parts : List Part) (first : ℕ) (s : State) → starts_in (so_
 so-far-starts parts first s = omega (arith, starts-append (events_of s.runs s.pairs parts) (ends (drop first s.pairs)), ends-starts (drop first s.pairs))
 
 -- The closer's part is put behind.
-
-pub events-append : (runs : List PairedRun) (pairs : List Pair) (ms ns : List Part) → events_of runs pairs (ms ++ ns) ≡ events_of runs pairs ms ++ events_of runs pairs ns
-unfolding events_of
-events-append runs pairs [] ns = refl
-events-append runs pairs (m ∷ ms) ns = ap (λ t. part_events runs pairs m ++ t) (events-append runs pairs ms ns) ∙ sym (append_assoc (part_events runs pairs m) (events_of runs pairs ms) (events_of runs pairs ns))
 
 pub events-elsewhere : (n : ℕ) (now : PairedRun) (runs : List PairedRun) (pairs : List Pair) (ms : List Part) → AreUnder n ms → events_of (set runs n now) pairs ms ≡ events_of runs pairs ms
 unfolding events_of
@@ -327,6 +277,8 @@ so-far-finished : (parts : List Part) (number first left : ℕ) (run : Run) (lis
     → so_far (parts ++ Numbered number ∷ []) (length s.pairs) (finished number first left run list s) ≡ so_far parts first s ++ Rest number (record run { left = left }) ∷ []
 unfolding events_of
 so-far-finished parts number first left run list s within under =
+    let now = closed_run (record run { left = left }) first (length s.pairs) in
+    let runs = set s.runs number now in
     ap (λ t. events_of runs s.pairs (parts ++ Numbered number ∷ []) ++ ends t) (drop-length s.pairs)
     ∙ append-nil (events_of runs s.pairs (parts ++ Numbered number ∷ []))
     ∙ events-append runs s.pairs parts (Numbered number ∷ [])
@@ -336,12 +288,6 @@ so-far-finished parts number first left run list s within under =
     ∙ ap (λ t. ends (drop first t) ++ Rest number now.run ∷ chain (reverse s.pairs) 0) (take-length s.pairs) ∙ ap (λ t. ends (drop first s.pairs) ++ Rest number now.run ∷ t) (chain-zero (reverse s.pairs)))
     ∙ sym (append_assoc (events_of s.runs s.pairs parts) (ends (drop first s.pairs)) (Rest number now.run ∷ []))
   where
-    now : PairedRun
-    now = closed_run (record run { left = left }) first (length s.pairs)
-
-    runs : List PairedRun
-    runs = set s.runs number now
-
     drop-length : (ps : List Pair) → drop (length ps) ps ≡ []
     drop-length [] = refl
     drop-length (p ∷ ps) = drop-length ps
@@ -359,26 +305,17 @@ AreLow n (f ∷ fs) = AreLow n fs
 rising-behind : (low n : ℕ) (r : Run) (fs : List Event) → Rising low fs → low ≤ n → AreLow n fs → Rising low (fs ++ Rest n r ∷ [])
 rising-behind low n r [] h p a = (p, tt)
 rising-behind low n r (Rest k q ∷ fs) h p a = (h.0, rising-behind (suc k) n r fs h.1 (omega (arith, a.0)) a.1)
-rising-behind low n r (Text t ∷ fs) h p a = rising-behind low n r fs h p a
-rising-behind low n r (Whole t ∷ fs) h p a = rising-behind low n r fs h p a
-rising-behind low n r (Start t ∷ fs) h p a = rising-behind low n r fs h p a
-rising-behind low n r (End t ∷ fs) h p a = rising-behind low n r fs h p a
+rising-behind low n r (_ ∷ fs) h p a = rising-behind low n r fs h p a
 
 pub low-none : (n : ℕ) (fs : List Event) → HaveNoRun fs → AreLow n fs
 low-none n [] h = tt
 low-none n (Rest k r ∷ fs) h = absurd h.0
-low-none n (Text t ∷ fs) h = low-none n fs h.1
-low-none n (Whole t ∷ fs) h = low-none n fs h.1
-low-none n (Start t ∷ fs) h = low-none n fs h.1
-low-none n (End t ∷ fs) h = low-none n fs h.1
+low-none n (_ ∷ fs) h = low-none n fs h.1
 
 pub low-append : (n : ℕ) (fs gs : List Event) → AreLow n fs → AreLow n gs → AreLow n (fs ++ gs)
 low-append n [] gs h g = g
 low-append n (Rest k r ∷ fs) gs h g = (h.0, low-append n fs gs h.1 g)
-low-append n (Text t ∷ fs) gs h g = low-append n fs gs h g
-low-append n (Whole t ∷ fs) gs h g = low-append n fs gs h g
-low-append n (Start t ∷ fs) gs h g = low-append n fs gs h g
-low-append n (End t ∷ fs) gs h g = low-append n fs gs h g
+low-append n (_ ∷ fs) gs h g = low-append n fs gs h g
 
 pub low-parts : (n : ℕ) (runs : List PairedRun) (pairs : List Pair) (ms : List Part) → AreUnder n ms → AreParts runs pairs ms → AreLow n (events_of runs pairs ms)
 unfolding events_of
@@ -394,65 +331,55 @@ low-parts n runs pairs (Known fs ∷ ms) u h = low-append n fs (events_of runs p
 -- So its part is put behind.
 pub put-finished : (parts : List Part) (old : State) (number left : ℕ) (run : Run) (had : List Item) (s : State) → number < length s.runs → number ≡ s.list.next → CloserDone parts old run had s left
     → PartAdded parts old run had (finished number (length old.pairs) left run s.list s) number left
-put-finished parts old number left run had s within at d = record {
-  events = so_far parts first s;
-  before = d.before;
-  rest = d.rest;
-  waits = w.waits;
-  whole = so-far-finished parts number first left run s.list s within under;
-  marked = parts-append (set s.runs number now) s.pairs parts (Numbered number ∷ []) (parts-elsewhere number now s.runs s.pairs parts under w.marked)
-      (omega (arith, within, length-set s.runs number now), omega (arith, ap (λ (p : PairedRun). p.opened) is), omega (arith, ap (λ (p : PairedRun). p.to) is), tt);
-  under = under;
-  rising = rising-behind 0 number (record run { left = left }) (so_far parts first s) w.rising (omega arith)
-      (low-append number (events_of s.runs s.pairs parts) (ends (drop first s.pairs)) (low-parts number s.runs s.pairs parts under w.marked) (low-none number (ends (drop first s.pairs)) (ends-none (drop first s.pairs))));
-  goes = d.goes;
-  rest_is = d.rest_is;
-  paid = d.paid;
-  made = d.made;
-  starts = omega (arith, d.starts, so-far-starts parts first s);
-}
-  where
-    first : ℕ
-    first = length old.pairs
-
-    w : PartsHold parts first s d.before
-    w = d.holds
-
-    now : PairedRun
-    now = closed_run (record run { left = left }) first (length s.pairs)
-
-    is : get_or (set s.runs number now) number no_run ≡ now
-    is = get_or-set_same s.runs number now no_run within
-
-    under : AreUnder number parts
-    under = subst (λ n. AreUnder n parts) (sym at) w.under
+put-finished parts old number left run had s within at d =
+    let first = length old.pairs in
+    let w = d.holds in
+    let now = closed_run (record run { left = left }) first (length s.pairs) in
+    let is = get_or-set_same s.runs number now no_run within in
+    let under = subst (λ n. AreUnder n parts) (sym at) w.under in
+    record {
+      events = so_far parts first s;
+      before = d.before;
+      rest = d.rest;
+      waits = w.waits;
+      whole = so-far-finished parts number first left run s.list s within under;
+      marked = parts-append (set s.runs number now) s.pairs parts (Numbered number ∷ []) (parts-elsewhere number now s.runs s.pairs parts under w.marked)
+          (omega (arith, within, length-set s.runs number now), omega (arith, ap (λ (p : PairedRun). p.opened) is), omega (arith, ap (λ (p : PairedRun). p.to) is), tt);
+      under = under;
+      rising = rising-behind 0 number (record run { left = left }) (so_far parts first s) w.rising (omega arith)
+          (low-append number (events_of s.runs s.pairs parts) (ends (drop first s.pairs)) (low-parts number s.runs s.pairs parts under w.marked) (low-none number (ends (drop first s.pairs)) (ends-none (drop first s.pairs))));
+      goes = d.goes;
+      rest_is = d.rest_is;
+      paid = d.paid;
+      made = d.made;
+      starts = omega (arith, d.starts, so-far-starts parts first s);
+    }
 
 -- a run that closes nothing is put behind as it is
 pub put-other : (parts : List Part) (s : State) (number : ℕ) (run : Run) (had : List Item) → number < length s.runs → number ≡ s.list.next → get_or s.runs number no_run ≡ closed_run run 0 0 → run.closes ≡ false → 1 ≤ run.left → PartsHold parts (length s.pairs) s had
     → PartAdded parts s run had s number run.left
 unfolding events_of
-put-other parts s number run had within at is other some w = record {
-  events = so_far parts (length s.pairs) s;
-  before = had;
-  rest = Delimiters run ∷ [];
-  waits = w.waits;
-  whole = ap (λ t. events_of s.runs s.pairs (parts ++ Numbered number ∷ []) ++ ends t) (drop-all s.pairs) ∙ append-nil (events_of s.runs s.pairs (parts ++ Numbered number ∷ []))
-      ∙ events-append s.runs s.pairs parts (Numbered number ∷ [])
-      ∙ ap (λ t. events_of s.runs s.pairs parts ++ t) (append-nil (run_events s.pairs number (get_or s.runs number no_run)) ∙ ap (run_events s.pairs number) is ∙ ap (λ t. Rest number run ∷ t) (chain-zero (reverse s.pairs)))
-      ∙ ap (λ t. t ++ Rest number run ∷ []) (sym (ap (λ t. events_of s.runs s.pairs parts ++ ends t) (drop-all s.pairs) ∙ append-nil (events_of s.runs s.pairs parts)));
-  marked = parts-append s.runs s.pairs parts (Numbered number ∷ []) w.marked (within, omega (arith, ap (λ (p : PairedRun). p.opened) is), omega (arith, ap (λ (p : PairedRun). p.to) is), tt);
-  under = under;
-  rising = rising-behind 0 number run (so_far parts (length s.pairs) s) w.rising (omega arith)
-      (low-append number (events_of s.runs s.pairs parts) (ends (drop (length s.pairs) s.pairs)) (low-parts number s.runs s.pairs parts under w.marked) (low-none number (ends (drop (length s.pairs) s.pairs)) (ends-none (drop (length s.pairs) s.pairs))));
-  goes = sym (pass-other had run other);
-  rest_is = sym (cond-false (nat_le run.left 0) [] (Delimiters run ∷ []) (not-none run.left some));
-  paid = λ kinds known. omega arith;
-  made = omega arith;
-  starts = omega (arith, so-far-starts parts (length s.pairs) s);
-}
-  where
-    under : AreUnder number parts
-    under = subst (λ n. AreUnder n parts) (sym at) w.under
+put-other parts s number run had within at is other some w =
+    let under = subst (λ n. AreUnder n parts) (sym at) w.under in
+    record {
+      events = so_far parts (length s.pairs) s;
+      before = had;
+      rest = Delimiters run ∷ [];
+      waits = w.waits;
+      whole = ap (λ t. events_of s.runs s.pairs (parts ++ Numbered number ∷ []) ++ ends t) (drop-all s.pairs) ∙ append-nil (events_of s.runs s.pairs (parts ++ Numbered number ∷ []))
+          ∙ events-append s.runs s.pairs parts (Numbered number ∷ [])
+          ∙ ap (λ t. events_of s.runs s.pairs parts ++ t) (append-nil (run_events s.pairs number (get_or s.runs number no_run)) ∙ ap (run_events s.pairs number) is ∙ ap (λ t. Rest number run ∷ t) (chain-zero (reverse s.pairs)))
+          ∙ ap (λ t. t ++ Rest number run ∷ []) (sym (ap (λ t. events_of s.runs s.pairs parts ++ ends t) (drop-all s.pairs) ∙ append-nil (events_of s.runs s.pairs parts)));
+      marked = parts-append s.runs s.pairs parts (Numbered number ∷ []) w.marked (within, omega (arith, ap (λ (p : PairedRun). p.opened) is), omega (arith, ap (λ (p : PairedRun). p.to) is), tt);
+      under = under;
+      rising = rising-behind 0 number run (so_far parts (length s.pairs) s) w.rising (omega arith)
+          (low-append number (events_of s.runs s.pairs parts) (ends (drop (length s.pairs) s.pairs)) (low-parts number s.runs s.pairs parts under w.marked) (low-none number (ends (drop (length s.pairs) s.pairs)) (ends-none (drop (length s.pairs) s.pairs))));
+      goes = sym (pass-other had run other);
+      rest_is = sym (cond-false (nat_le run.left 0) [] (Delimiters run ∷ []) (not-none run.left some));
+      paid = λ kinds known. omega arith;
+      made = omega arith;
+      starts = omega (arith, so-far-starts parts (length s.pairs) s);
+    }
 
 -- The pass goes on, and the list is as waits-opener, waits-text or waits-gone has it.
 pub next-put : (parts : List Part) (old : State) (run : Run) (had : List Item) (s : State) (number left : ℕ) (list : Listed) (after : List Item) → (p : PartAdded parts old run had s number left) → list.next ≡ number + 1 → after ≡ passed had (Delimiters run)

@@ -17,7 +17,8 @@ use Rattle.cm_scan.specs.inlines.Inlines.{add_atom, item_step, items_after}
 use Rattle.cm_scan.proofs.lemmas.inlines.OnePassLemmas.{pairs_in_one_pass}
 use Rattle.cm_inline.specs.declared.fault.InlineFault.{InlineFault}
 use Rattle.cm_inline.specs.steps.Depths.{item_depth, items_depth}
-use Rattle.cm_inline.proofs.lemmas.PairDepthLemmas.{both, reverse-depth, settled-items, pass-deeper}
+use Rattle.cm_inline.proofs.lemmas.PairDepthLemmas.{reverse-depth, settled-items, pass-deeper}
+use Rattle.cm_inline.proofs.lemmas.InlineDepthLemmas.{both}
 
 abbrev fault_or : {A : Type 0} → InlineFault → Result A InlineFault → InlineFault
 fault_or f (Ok x) = f
@@ -105,11 +106,8 @@ bracket-deeper rules defined items rest = go (last_opener items []) refl
 
 pub atom-deeper : (rules : Rules) (defined : Defined) (items : List Item) (atom : Atom) (rest : List ℕ) → items_depth items ≤ items_depth (add_atom rules defined items atom rest).items
 unfolding add_atom
-atom-deeper rules defined items (Plain text) rest = omega arith
-atom-deeper rules defined items (Whole inline) rest = omega arith
-atom-deeper rules defined items (Delimiter run) rest = omega arith
-atom-deeper rules defined items (OpenBracket image) rest = omega arith
 atom-deeper rules defined items CloseBracket rest = bracket-deeper rules defined items rest
+atom-deeper rules defined items _ rest = omega arith
 
 step-deeper : (rules : Rules) (defined : Defined) (before : List ℕ) (b : ℕ) (bs : List ℕ) (items : List Item) → items_depth items ≤ items_depth (item_step rules defined before b bs items).items
 unfolding item_step

@@ -1,5 +1,5 @@
 -- How many of emphasis, strong emphasis and strikethrough items hold, and what is made of them.
-use Rattle.std.proofs.Common.{◌≡◌, ℕ, ◌+◌, ◌-◌, Bool, true, false, nat_le, ◌==◌, List, [], ◌∷◌, ◌++◌, reverse, Some, refl, ap, arith}
+use Rattle.std.proofs.Common.{◌≡◌, ℕ, ◌+◌, ◌-◌, Bool, true, false, nat_le, ◌==◌, List, [], ◌∷◌, ◌++◌, reverse, Some, refl, ap, arith, zero-add, sym, ◌∙◌}
 use Rattle.std.specs.Prelude.{if◌then◌else◌, replicate}
 use Rattle.std.proofs.lemmas.List.{reverse-append}
 use Rattle.cm_tree.specs.declared.tree.Inline.{Inline}
@@ -52,22 +52,13 @@ autolink-holds link = omega (arith, link-holds link.destination [] (Text link.te
 image-holds : (dest title : List ℕ) (content : List Inline) → emphases_of (Image dest title content) ≡ emphases content
 image-holds dest title content = simp (fold_out-Inline ℕ emphases_step, outs-Image)
 
-pub emph-holds : (content : List Inline) → emphases_of (Emph content) ≡ emphases content + 1
-emph-holds content = simp (fold_out-Inline ℕ emphases_step, outs-Emph)
-
-strong-holds : (content : List Inline) → emphases_of (Strong content) ≡ emphases content + 1
-strong-holds content = simp (fold_out-Inline ℕ emphases_step, outs-Strong)
-
-strike-holds : (content : List Inline) → emphases_of (Strike content) ≡ emphases content + 1
-strike-holds content = simp (fold_out-Inline ℕ emphases_step, outs-Strike)
-
 emphasised-holds : (character count : ℕ) (content : List Inline) → emphases_of (emphasised character count content) ≡ emphases content + 1
 emphasised-holds character count content = go (character == 126) (count == 2)
   where
     go : (tilde two : Bool) → emphases_of (if tilde then Strike content else (if two then Strong content else Emph content)) ≡ emphases content + 1
-    go true two = strike-holds content
-    go false true = strong-holds content
-    go false false = emph-holds content
+    go true two = simp (fold_out-Inline ℕ emphases_step, outs-Strike)
+    go false true = simp (fold_out-Inline ℕ emphases_step, outs-Strong)
+    go false false = simp (fold_out-Inline ℕ emphases_step, outs-Emph)
 
 text-first : (text : List ℕ) (inlines : List Inline) → emphases (text_before text inlines) ≡ emphases inlines
 text-first [] inlines = refl
@@ -76,11 +67,9 @@ text-first (b ∷ bs) inlines = omega (arith, text-holds (b ∷ bs))
 settled-after : (text : List ℕ) (items : List Item) → emphases (settled_after text items) ≡ items_emphases items
 unfolding settled_after
 settled-after text [] = text-first text []
-settled-after text (Characters more ∷ items) = omega (arith, settled-after (text ++ more) items)
-settled-after text (Delimiters run ∷ items) = omega (arith, settled-after (text ++ replicate run.left run.character) items)
-settled-after text (Opener image source ∷ items) = omega (arith, settled-after (text ++ bracket_text image) items)
 settled-after text (Finished inline ∷ items) = omega (arith, text-first text (inline ∷ settled_after [] items), settled-after [] items)
 settled-after text (Linked inline ∷ items) = omega (arith, text-first text (inline ∷ settled_after [] items), settled-after [] items)
+settled-after text (_ ∷ items) = settled-after _ items ∙ sym (zero-add (items_emphases items))
 
 pub settled-holds : (items : List Item) → emphases (settled items) ≡ items_emphases items
 settled-holds items = settled-after [] items
@@ -88,11 +77,7 @@ settled-holds items = settled-after [] items
 -- a pair makes one more
 
 rest-holds : (n : ℕ) (run : Run) → items_emphases (without n run) ≡ 0
-rest-holds n run = go (nat_le run.left n)
-  where
-    go : (b : Bool) → items_emphases (if b then [] else Delimiters (record run { left = run.left - n }) ∷ []) ≡ 0
-    go true = refl
-    go false = refl
+rest-holds n run = elim (nat_le run.left n) as (λ b. items_emphases (if b then [] else Delimiters (record run { left = run.left - n }) ∷ []) ≡ 0) [ true ↦ refl | false ↦ refl ]
 
 pub pair-holds : (before : List Item) (closer : Run) (found : Opened) → nearest_opener closer before [] ≡ Some found → items_emphases (up_to_pair found closer) ≡ items_emphases before + 1
 pair-holds before closer found is =

@@ -64,15 +64,13 @@ means-empty number r e m = ap (λ n. add_text m (replicate n r.character)) e ∙
 pub means-wrap : (fs : List Event) (inside : List Item) (tag : Tag) → Means fs inside → Means (Start tag ∷ fs ++ End tag ∷ []) (Finished (made_of tag (settled inside)) ∷ [])
 unfolding build
 means-wrap fs inside tag h m =
+    let opened = build_one m (Start tag) in
     build-append opened fs (End tag ∷ [])
     ∙ ap (λ t. build_one t (End tag)) (h opened)
     ∙ ap (λ o. closed o (ended (build opened (leaves inside)))) (leaves-outer inside opened)
     ∙ ap (closed (ended m ∷ m.outer)) (leaves-settle inside opened)
     ∙ ap (λ c. made c) (append_assoc m.content (text_before m.text []) (made_of tag (settled inside) ∷ []) ∙ ap (λ t. m.content ++ t) (sym (text-split m.text (made_of tag (settled inside) ∷ []))))
   where
-    opened : Built
-    opened = build_one m (Start tag)
-
     closed : List (List Inline) → List Inline → Built
     closed o inlines = record { content = innermost o ++ made_of tag inlines ∷ []; text = []; outer = others o }
 

@@ -48,17 +48,6 @@ text-html (b ∷ bs) h =
     let parts = and_parts (stays_text false b) (list_all (stays_text false) bs) h in
     ap (λ t. t ++ escape bs) (byte-html b parts.0) ∙ ap (λ t. b ∷ t) (text-html bs parts.1)
 
--- parts of a source side by side
-pub slice-both : (source : List ℕ) (from to end : ℕ) → from ≤ to → to ≤ end → slice_range source from end ≡ slice_range source from to ++ slice_range source to end
-slice-both source from to end first second =
-    let long : end - from ≡ to - from + (end - to) = omega (arith, first, second) in
-    let place : from + (to - from) ≡ to = omega (arith, first) in
-    ap (λ n. take n (drop from source)) long ∙ take-add (to - from) (end - to) (drop from source)
-    ∙ ap (λ t. slice_range source from to ++ take (end - to) t) (drop-drop (to - from) from source ∙ ap (λ n. drop n source) place)
-
-pub slice-none : (source : List ℕ) (from to : ℕ) → from ≡ to → slice_range source from to ≡ []
-slice-none source from to same = let none : to - from ≡ 0 = omega (arith, same) in ap (λ n. take n (drop from source)) none
-
 -- what follows where there was memory
 pub on-ok : {T E : Type 0} {P Q : Type 0} (r : Result T E) → OnOk r P → (P → Q) → OnOk r Q
 on-ok (Ok x) p f = f p

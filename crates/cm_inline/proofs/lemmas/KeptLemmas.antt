@@ -152,26 +152,17 @@ Highs n (f ∷ fs) = Highs n fs
 raise : (n low : ℕ) (fs : List Event) → Highs n fs → Rising low fs → Rising n fs
 raise n low [] h r = tt
 raise n low (Rest k q ∷ fs) h r = (h.0, r.1)
-raise n low (Text t ∷ fs) h r = raise n low fs h r
-raise n low (Whole t ∷ fs) h r = raise n low fs h r
-raise n low (Start t ∷ fs) h r = raise n low fs h r
-raise n low (End t ∷ fs) h r = raise n low fs h r
+raise n low (_ ∷ fs) h r = raise n low fs h r
 
 highs-append : (n : ℕ) (fs gs : List Event) → Highs n fs → Highs n gs → Highs n (fs ++ gs)
 highs-append n [] gs h g = g
 highs-append n (Rest k q ∷ fs) gs h g = (h.0, highs-append n fs gs h.1 g)
-highs-append n (Text t ∷ fs) gs h g = highs-append n fs gs h g
-highs-append n (Whole t ∷ fs) gs h g = highs-append n fs gs h g
-highs-append n (Start t ∷ fs) gs h g = highs-append n fs gs h g
-highs-append n (End t ∷ fs) gs h g = highs-append n fs gs h g
+highs-append n (_ ∷ fs) gs h g = highs-append n fs gs h g
 
 highs-none : (n : ℕ) (fs : List Event) → HaveNoRun fs → Highs n fs
 highs-none n [] h = tt
 highs-none n (Rest k r ∷ fs) h = absurd h.0
-highs-none n (Text t ∷ fs) h = highs-none n fs h.1
-highs-none n (Whole t ∷ fs) h = highs-none n fs h.1
-highs-none n (Start t ∷ fs) h = highs-none n fs h.1
-highs-none n (End t ∷ fs) h = highs-none n fs h.1
+highs-none n (_ ∷ fs) h = highs-none n fs h.1
 
 highs-parts : (n : ℕ) (runs : List PairedRun) (pairs : List Pair) (ms : List Part) → AllOf (λ k. n ≤ k) ms → AreParts runs pairs ms → Highs n (events_of runs pairs ms)
 unfolding events_of

@@ -12,11 +12,6 @@ use Rattle.cm_inline.specs.steps.Runs.{runs_in, pairs_in}
 use Rattle.cm_inline.specs.steps.Standalone.{IsBetween}
 use Rattle.cm_inline.specs.steps.Writing.{mark_numbered, mark_events, events_from, IsMarkIn}
 
-pub get_or-map : {A B : Type 0} (f : A → B) (xs : List A) (n : ℕ) (a : A) (b : B) → n < length xs → get_or (map f xs) n b ≡ f (get_or xs n a)
-get_or-map f [] n a b h = absurd (omega (arith, h))
-get_or-map f (x ∷ xs) zero a b h = refl
-get_or-map f (x ∷ xs) (suc n) a b h = get_or-map f xs n a b (omega (arith, h))
-
 pub events-append : (runs : List PairedRun) (pairs : List Pair) (ms ns : List Part) → events_of runs pairs (ms ++ ns) ≡ events_of runs pairs ms ++ events_of runs pairs ns
 unfolding events_of
 events-append runs pairs [] ns = refl

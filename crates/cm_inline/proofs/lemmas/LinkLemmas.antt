@@ -222,9 +222,8 @@ module _ (rules : Rules) (leaf : Leaf) where
   pub placed : {E : Type 0} (at : ℕ) (between : List ℕ) (r : Result (Option LinkEnd) E) → at < length leaf.source.now
       → IfOk r (λ found. ends_of leaf found ≡ end_at rules (defined_by leaf) between (drop (at + 1) leaf.source.now)) → IfOk r (λ found. IfSome found (IsPlaced leaf))
       → IfOk r (λ found. IfSome found (λ e. (at < e.end) × IsPlaced leaf e))
-  placed at between (Ok None) within h place = tt
   placed at between (Ok (Some e)) within h place = (ends-behind at between e within h place.0, place)
-  placed at between (Err f) within h place = tt
+  placed at between _ within h place = tt
 
   abbrev first_of : List ℕ → List ℕ → Option brackets.LinkEnd → Option brackets.LinkEnd
   first_of between text o = elim o [ Some end ↦ Some end | None ↦ end_if_followed rules (reference_end (defined_by leaf) between text) ]

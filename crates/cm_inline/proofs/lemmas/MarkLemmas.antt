@@ -3,7 +3,7 @@ use Rattle.std.proofs.Common.{◌≡◌, ℕ, zero, suc, ◌+◌, ◌-◌, ◌<�
 use Rattle.std.specs.Prelude.{replicate, encode_utf8, if◌then◌else◌}
 use Rattle.std.specs.List.{slice_range}
 use Rattle.std.proofs.lemmas.Bool.{cond-false}
-use Rattle.std.proofs.lemmas.List.{append-nil, take-map, get_or-take, get_or-drop, get_or_read}
+use Rattle.std.proofs.lemmas.List.{append-nil, take-map, get_or-take, get_or-drop, get_or_read, get_or-map, drop-map}
 use Rattle.cm_tree.specs.Definitions.{Targets}
 use Rattle.cm_tree.specs.declared.tree.Inline.TheFolds.{fold_out-Inline}
 use Rattle.cm_tree.specs.declared.tree.Inline.TheVariants as inlines
@@ -29,7 +29,6 @@ use Rattle.cm_inline.specs.steps.Runs.{byte_of, tag_in, pair_in, pairs_in, paire
 use Rattle.cm_inline.specs.steps.Standalone.{autolink, autolink_html}
 use Rattle.cm_inline.specs.steps.Writing.{Adds, mark_events, mode_after, is_end_of, IsNumbered, IsLinked, IsMarkIn}
 use Rattle.cm_inline.proofs.lemmas.HtmlLemmas.{run-html, text-html}
-use Rattle.cm_inline.proofs.lemmas.LaidLemmas.{get_or-map}
 use Rattle.cm_inline.proofs.lemmas.WriteLemmas.{write-append, soft-html, soft-plain}
 
 -- what is written of a mark among tags
@@ -171,35 +170,15 @@ pub numbered : (source : List ℕ) (targets : Targets) (reader : Reader) (mark :
 numbered source targets reader mark m = go mark.kind m.kind
   where
     go : (kind : Kind) → IsOfKind source targets reader.runs.runs.items reader.links.items mark.at mark.end kind → IsNumbered reader.runs.runs.items kind
-    go kinds.Plain h = tt
-    go kinds.Escaped h = tt
-    go kinds.Nothing h = tt
-    go (kinds.Character c) h = tt
-    go (kinds.Code from to) h = tt
-    go kinds.Html h = tt
-    go (kinds.Autolink is_address) h = tt
-    go kinds.Soft h = tt
-    go kinds.Hard h = tt
     go (kinds.Run number) h = h.0
-    go (kinds.Start number) h = tt
-    go (kinds.End number) h = tt
+    go _ h = tt
 
 pub linked : (source : List ℕ) (targets : Targets) (reader : Reader) (mark : Mark) → IsMarkIn source targets reader mark → IsLinked reader.links.items mark.kind
 linked source targets reader mark m = go mark.kind m.kind
   where
     go : (kind : Kind) → IsOfKind source targets reader.runs.runs.items reader.links.items mark.at mark.end kind → IsLinked reader.links.items kind
-    go kinds.Plain h = tt
-    go kinds.Escaped h = tt
-    go kinds.Nothing h = tt
-    go (kinds.Character c) h = tt
-    go (kinds.Code from to) h = tt
-    go kinds.Html h = tt
-    go (kinds.Autolink is_address) h = tt
-    go kinds.Soft h = tt
-    go kinds.Hard h = tt
-    go (kinds.Run number) h = tt
     go (kinds.Start number) h = h.known
-    go (kinds.End number) h = tt
+    go _ h = tt
 
 -- in an alternative text
 
@@ -294,15 +273,9 @@ alt-end source targets reader mark link html number is other =
     (cond-false (number == link) (page (html ++ end_html (link_tag source targets number l)) Tags) (page html (Alternative link)) (sym (ap (is_end_of link) is) ∙ other))
 
 -- of a run, what is left
-drop-map : {A B : Type 0} (f : A → B) (n : ℕ) (xs : List A) → drop n (map f xs) ≡ map f (drop n xs)
-drop-map f zero xs = refl
-drop-map f (suc n) [] = refl
-drop-map f (suc n) (x ∷ xs) = drop-map f n xs
-
 emphasis-end : (link : ℕ) (emphasis : Emphasis) → is_number link (tag_in emphasis) ≡ false
 emphasis-end link Emph = refl
-emphasis-end link Strong = refl
-emphasis-end link Strike = refl
+emphasis-end link _ = refl
 
 ends-alternative : (link : ℕ) (html : List ℕ) (ps : List made.Pair) → write_all (page html (Alternative link)) (ends (pairs_in ps)) ≡ page html (Alternative link)
 unfolding write_all

@@ -29,6 +29,7 @@ use Rattle.cm_inline.specs.steps.Writing.{no_mark, mark_numbered, mark_events, e
 use Rattle.cm_inline.proofs.lemmas.LaidLemmas.{events-next, events-last}
 use Rattle.cm_inline.proofs.lemmas.RunLemmas.{run-known}
 use Rattle.cm_inline.proofs.lemmas.TagLemmas.{length-pairs}
+use Rattle.cm_inline.proofs.lemmas.DepthLemmas.{code-depth, html-depth, soft-depth, hard-depth, autolink-depth}
 
 pub rise-append : (l : Level) (fs gs : List Event) → rise_all l (fs ++ gs) ≡ rise_all (rise_all l fs) gs
 unfolding rise_all
@@ -107,30 +108,6 @@ run-rises-at bound l runs pairs number r low read chained can =
 abbrev kind_events : List ℕ → Targets → Reader → Mark → Kind → List Event
 kind_events source targets reader mark kind = part_events (runs_in reader.runs.runs.items) (pairs_in reader.runs.pairs.items) (part_of_kind source targets reader.links.items mark.at mark.end kind)
 
-autolink-depth : (is_address : Bool) (text : List ℕ) → depth_of (autolink is_address text) ≡ 1
-autolink-depth is_address text = linked (if is_address then codes "mailto:" ++ text else text)
-  where
-    text-is : depth_of (inlines.Text text) ≡ 0
-    text-is = simp (fold_out-Inline ℕ depth_step, outs-Text)
-
-    link-is : (dest : List ℕ) → depth_of (inlines.Link dest [] (inlines.Text text ∷ [])) ≡ max (depth_of (inlines.Text text)) 0 + 1
-    link-is dest = simp (fold_out-Inline ℕ depth_step, outs-Link)
-
-    linked : (dest : List ℕ) → depth_of (inlines.Link dest [] (inlines.Text text ∷ [])) ≡ 1
-    linked dest = link-is dest ∙ ap (λ n. max n 0 + 1) text-is ∙ omega arith
-
-code-depth : (text : List ℕ) → depth_of (inlines.Code text) ≡ 0
-code-depth text = simp (fold_out-Inline ℕ depth_step, outs-Code)
-
-html-depth : (text : List ℕ) → depth_of (inlines.Html text) ≡ 0
-html-depth text = simp (fold_out-Inline ℕ depth_step, outs-Html)
-
-soft-depth : depth_of inlines.Soft ≡ 0
-soft-depth = simp (fold_out-Inline ℕ depth_step, outs-Soft)
-
-hard-depth : depth_of inlines.Hard ≡ 0
-hard-depth = simp (fold_out-Inline ℕ depth_step, outs-Hard)
-
 of-kind : (source : List ℕ) (targets : Targets) (reader : Reader) (mark : Mark) (l new : Level) (kind : Kind) → mark.kind ≡ kind → new ≡ rise_all l (kind_events source targets reader mark kind) → new ≡ rise_all l (mark_events source targets reader mark)
 of-kind source targets reader mark l new kind is h = subst (λ k. new ≡ rise_all l (kind_events source targets reader mark k)) (sym is) h
 
@@ -166,10 +143,6 @@ unfolding rise_all
 flat-level source targets reader mark l high no_autolink no_run no_start no_end = go mark.kind refl
   where
     go : (kind : Kind) → mark.kind ≡ kind → l ≡ rise_all l (kind_events source targets reader mark kind)
-    go kinds.Plain e = refl
-    go kinds.Escaped e = refl
-    go kinds.Nothing e = refl
-    go (kinds.Character c) e = refl
     go (kinds.Code from to) e = same-level l _ high (code-depth (one_line (slice_range source from to)))
     go kinds.Html e = same-level l _ high (html-depth (slice_range source mark.at mark.end))
     go (kinds.Autolink is_address) e = absurd (no_autolink is_address e)
@@ -178,16 +151,14 @@ flat-level source targets reader mark l high no_autolink no_run no_start no_end 
     go (kinds.Run number) e = absurd (no_run number e)
     go (kinds.Start number) e = absurd (no_start number e)
     go (kinds.End number) e = absurd (no_end number e)
+    go _ e = refl
 
 -- from how deep all nest it follows that the levels so far can rise
 
 most-below : (d m total : ℕ) (fs : List Event) → deepest d m fs ≡ Some total → m ≤ total
 unfolding deepest
-most-below d m total [] h = go (d == 0) h
-  where
-    go : (b : Bool) → cond b (Some m) None ≡ Some total → m ≤ total
-    go true e = let same : m ≡ total = cc e in omega (arith, same)
-    go false e = absurd (cc e)
+most-below d m total [] h =
+    (elim (d == 0) as (λ b. cond b (Some m) None ≡ Some total → m ≤ total) [ true ↦ λ e. let same : m ≡ total = cc e in omega (arith, same) | false ↦ λ e. absurd (cc e) ]) h
 most-below d m total (Text t ∷ fs) h = most-below d m total fs h
 most-below d m total (Rest n r ∷ fs) h = most-below d m total fs h
 most-below d m total (Whole i ∷ fs) h = omega (arith, most-below d (max m (d + depth_of i)) total fs h)
@@ -229,11 +200,8 @@ rises bound total l (End tag ∷ fs) more high low h = go (l.now == 0) refl h (�
 -- text doesn't nest
 byte-flat : (d m b : ℕ) (more : List Event) → d ≤ m → deepest d m (text_event b ∷ more) ≡ deepest d m more
 unfolding deepest
-byte-flat d m b more high = go (b == 10)
-  where
-    go : (c : Bool) → deepest d m (cond c (Whole inlines.Soft) (Text (b ∷ [])) ∷ more) ≡ deepest d m more
-    go true = ap (λ n. deepest d n more) (omega (arith, high, soft-depth))
-    go false = refl
+byte-flat d m b more high =
+    elim (b == 10) as (λ c. deepest d m (cond c (Whole inlines.Soft) (Text (b ∷ [])) ∷ more) ≡ deepest d m more) [ true ↦ ap (λ n. deepest d n more) (omega (arith, high, soft-depth)) | false ↦ refl ]
 
 texts-flat : (runs : List PairedRun) (pairs : List Pair) (d m : ℕ) (text : List ℕ) (more : List Event) → d ≤ m → deepest d m (events_of runs pairs (texts text) ++ more) ≡ deepest d m more
 unfolding events_of
@@ -289,11 +257,7 @@ nests-last lines source targets reader depth at l h n =
     let whole : deepest l.now l.most [] ≡ Some depth =
     sym (texts-flat (runs_in reader.runs.runs.items) (pairs_in reader.runs.pairs.items) l.now l.most text [] n.high) ∙ ap (deepest l.now l.most) (append-nil events ∙ sym (events-last source targets reader n.from))
     ∙ ap (λ t. deepest l.now l.most (events_from source targets reader n.from t)) (sym (drop_all at reader.marks.items h)) ∙ n.rest in
-    go (l.now == 0) whole
-  where
-    go : (b : Bool) → cond b (Some l.most) None ≡ Some depth → l.most ≡ depth
-    go true e = cc e
-    go false e = absurd (cc e)
+    (elim (l.now == 0) as (λ b. cond b (Some l.most) None ≡ Some depth → l.most ≡ depth) [ true ↦ λ e. cc e | false ↦ λ e. absurd (cc e) ]) whole
 
 -- all levels fit
 pub nests-fit : (lines : Bool) (source : List ℕ) (targets : Targets) (reader : Reader) (depth : ℕ) → NestsTo lines source targets reader depth → depth < 2 ^ 64

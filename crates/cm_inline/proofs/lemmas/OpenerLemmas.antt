@@ -98,23 +98,15 @@ with_left left x = record { number = x.number; run = record { marker = x.run.mar
 
 pub leaving-some : (stack : List Opener) (n left : ℕ) (x : Opener) → n ≡ length stack → 0 < n → 0 < left → x ≡ get_or stack (n - 1) x → entries_in (set stack (n - 1) (with_left left x)) ≡ leaving left (entries_in stack)
 leaving-some stack n left x long h some read =
+    let full : 0 < length stack = omega (arith, long, h) in
+    let front = take (length stack - 1) stack in
+    let last = get_or stack (length stack - 1) no_opener in
+    let is = get_or_read stack (length stack - 1) x (omega (arith, full)) (read ∙ ap (λ k. get_or stack (k - 1) x) long) no_opener in
     ap (λ k. entries_in (set stack (k - 1) (with_left left x))) long
     ∙ ap entries_in (stack-set stack (with_left left x) full) ∙ entries-push front (with_left left x)
     ∙ ap (λ y. entry_of (with_left left y) ∷ entries_in front) is
     ∙ sym (ap (λ l. l ++ entries_in front) (cond-false (left == 0) [] (entry_of (with_left left last) ∷ []) (ne_eqb left 0 (λ e. absurd (omega (arith, e, some))))))
     ∙ sym (ap (λ s. leaving left (entries_in s)) (stack-ends stack full) ∙ ap (leaving left) (entries-push front last))
-  where
-    full : 0 < length stack
-    full = omega (arith, long, h)
-
-    front : List Opener
-    front = take (length stack - 1) stack
-
-    last : Opener
-    last = get_or stack (length stack - 1) no_opener
-
-    is : x ≡ last
-    is = get_or_read stack (length stack - 1) x (omega (arith, full)) (read ∙ ap (λ k. get_or stack (k - 1) x) long) no_opener
 
 pub openers-set : (stack : List Opener) (at : ℕ) (y : Opener) → AreOpeners stack → y.run.opens ≡ true → 1 ≤ y.run.left → AreOpeners (set stack at y)
 openers-set [] at y h o s = tt

@@ -8,35 +8,18 @@ use Rattle.cm_scan.specs.inlines.OnePass.{up_to_pair, closer_left, closed_within
 use Rattle.cm_scan.proofs.lemmas.inlines.PairingLemmas.{nearest-splits, together}
 use Rattle.cm_scan.proofs.lemmas.inlines.OnePassLemmas.{closed-none, closed-gone, closed-more, closed_by-gone, closed_by-more}
 use Rattle.cm_inline.specs.steps.Depths.{items_depth}
-use Rattle.cm_inline.proofs.lemmas.InlineDepthLemmas.{emphasised-depth, text-first, none-deeper}
+use Rattle.cm_inline.proofs.lemmas.InlineDepthLemmas.{emphasised-depth, text-first, both, settled-after-depth}
 use Rattle.cm_inline.proofs.lemmas.CloserLemmas.{pass-closer, pass-other}
-
-pub both : (xs ys : List Item) → items_depth (xs ++ ys) ≡ max (items_depth xs) (items_depth ys)
-both [] ys = sym (none-deeper (items_depth ys))
-both (x ∷ xs) ys = omega (arith, both xs ys)
 
 pub reverse-depth : (items : List Item) → items_depth (reverse items) ≡ items_depth items
 reverse-depth [] = refl
 reverse-depth (item ∷ items) = ap items_depth (reverse-append (item ∷ []) items) ∙ omega (arith, both (reverse items) (item ∷ []), reverse-depth items)
 
-settled-is : (text : List ℕ) (items : List Item) → inlines_depth (settled_after text items) ≡ items_depth items
-unfolding settled_after
-settled-is text [] = text-first text []
-settled-is text (Characters more ∷ items) = settled-is _ items ∙ sym (none-deeper (items_depth items))
-settled-is text (Delimiters run ∷ items) = settled-is _ items ∙ sym (none-deeper (items_depth items))
-settled-is text (Opener image source ∷ items) = settled-is _ items ∙ sym (none-deeper (items_depth items))
-settled-is text (Finished inline ∷ items) = text-first text (inline ∷ settled_after [] items) ∙ ap (λ n. max (depth_of inline) n) (settled-is [] items)
-settled-is text (Linked inline ∷ items) = text-first text (inline ∷ settled_after [] items) ∙ ap (λ n. max (depth_of inline) n) (settled-is [] items)
-
 pub settled-items : (items : List Item) → inlines_depth (settled items) ≡ items_depth items
-settled-items items = settled-is [] items
+settled-items items = settled-after-depth [] items
 
 without-depth : (n : ℕ) (run : Run) → items_depth (without n run) ≡ 0
-without-depth n run = go (nat_le run.left n)
-  where
-    go : (b : Bool) → items_depth (cond b [] (Delimiters (record run { left = run.left - n }) ∷ [])) ≡ 0
-    go true = refl
-    go false = omega arith
+without-depth n run = elim (nat_le run.left n) as (λ b. items_depth (cond b [] (Delimiters (record run { left = run.left - n }) ∷ [])) ≡ 0) [ true ↦ refl | false ↦ omega arith ]
 
 -- a pair nests deeper than what is between its runs, and no less deep than what is before
 pub pair-deeper : (found : Opened) (closer : Run) → (items_depth found.inside < items_depth (up_to_pair found closer)) × (items_depth (together found) ≤ items_depth (up_to_pair found closer))

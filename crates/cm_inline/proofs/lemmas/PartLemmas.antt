@@ -17,7 +17,7 @@ pub chain-stays : (p : Pair) (ps : List Pair) (n : ℕ) → n ≤ length ps → 
 unfolding chain
 chain-stays p ps n h = cond-false (n == suc (length ps)) (Start p.tag ∷ chain ps p.before) (chain ps n) (ne_eqb n (suc (length ps)) (λ e. absurd (omega (arith, e, h))))
 
-chain-goes : (p : Pair) (ps : List Pair) (n : ℕ) → n ≡ suc (length ps) → chain (p ∷ ps) n ≡ Start p.tag ∷ chain ps p.before
+pub chain-goes : (p : Pair) (ps : List Pair) (n : ℕ) → n ≡ suc (length ps) → chain (p ∷ ps) n ≡ Start p.tag ∷ chain ps p.before
 unfolding chain
 chain-goes p ps n h = cond-true (n == suc (length ps)) (Start p.tag ∷ chain ps p.before) (chain ps n) (eq-eqb n (suc (length ps)) h)
 
@@ -41,10 +41,7 @@ open-absent number count tag (End s ∷ fs) h = ap (λ l. End s ∷ l) (open-abs
 pub absent-none : (number : ℕ) (fs : List Event) → HaveNoRun fs → Absent number fs
 absent-none number [] h = tt
 absent-none number (Rest n r ∷ fs) h = absurd h.0
-absent-none number (Text t ∷ fs) h = (tt, absent-none number fs h.1)
-absent-none number (Whole i ∷ fs) h = (tt, absent-none number fs h.1)
-absent-none number (Start s ∷ fs) h = (tt, absent-none number fs h.1)
-absent-none number (End s ∷ fs) h = (tt, absent-none number fs h.1)
+absent-none number (_ ∷ fs) h = (tt, absent-none number fs h.1)
 
 pub ends-none : (ps : List Pair) → HaveNoRun (ends ps)
 ends-none [] = tt
@@ -127,10 +124,7 @@ pair-written number count tag runs pairs (Known fs ∷ ms) h =
 pub absent-below : (low number : ℕ) (fs : List Event) → number < low → Rising low fs → Absent number fs
 absent-below low number [] h r = tt
 absent-below low number (Rest n q ∷ fs) h r = (ne_eqb n number (λ e. absurd (omega (arith, e, h, r.0))), absent-below (suc n) number fs (omega (arith, h, r.0)) r.1)
-absent-below low number (Text t ∷ fs) h r = (tt, absent-below low number fs h r)
-absent-below low number (Whole t ∷ fs) h r = (tt, absent-below low number fs h r)
-absent-below low number (Start t ∷ fs) h r = (tt, absent-below low number fs h r)
-absent-below low number (End t ∷ fs) h r = (tt, absent-below low number fs h r)
+absent-below low number (_ ∷ fs) h r = (tt, absent-below low number fs h r)
 
 -- so a pair adds at most one start
 pub open-starts : (low number count : ℕ) (tag : Tag) (fs : List Event) → Rising low fs → starts_in (open_at number count tag fs) ≤ starts_in fs + 1
@@ -141,10 +135,8 @@ open-starts low number count tag (Rest n r ∷ fs) h = go (n == number) refl (op
     go : (b : Bool) → (n == number) ≡ b → starts_in (open_at number count tag fs) ≤ starts_in fs + 1 → starts_in (cond b (Rest n (taken count r) ∷ Start tag ∷ []) (Rest n r ∷ []) ++ open_at number count tag fs) ≤ starts_in fs + 1
     go true e more = omega (arith, ap starts_in (open-absent number count tag fs (absent-below (suc n) number fs (omega (arith, eqb-true n number e)) h.1)))
     go false e more = more
-open-starts low number count tag (Text t ∷ fs) h = open-starts low number count tag fs h
-open-starts low number count tag (Whole t ∷ fs) h = open-starts low number count tag fs h
 open-starts low number count tag (Start t ∷ fs) h = omega (arith, open-starts low number count tag fs h)
-open-starts low number count tag (End t ∷ fs) h = open-starts low number count tag fs h
+open-starts low number count tag (_ ∷ fs) h = open-starts low number count tag fs h
 
 pub record Once (low number : ℕ) (front back : List Event) : Type 0 where
   pub front_lacks : Absent number front
@@ -157,9 +149,7 @@ rising-once low number r (Rest n q ∷ front) back h =
     let o = rising-once (suc n) number r front back h.1 in
     record { front_lacks = (ne_eqb n number (λ e. absurd (omega (arith, e, o.high))), o.front_lacks); back_lacks = o.back_lacks; high = omega (arith, h.0, o.high) }
 rising-once low number r (Text t ∷ front) back h = let o = rising-once low number r front back h in record { front_lacks = (tt, o.front_lacks); back_lacks = o.back_lacks; high = o.high }
-rising-once low number r (Whole t ∷ front) back h = let o = rising-once low number r front back h in record { front_lacks = (tt, o.front_lacks); back_lacks = o.back_lacks; high = o.high }
-rising-once low number r (Start t ∷ front) back h = let o = rising-once low number r front back h in record { front_lacks = (tt, o.front_lacks); back_lacks = o.back_lacks; high = o.high }
-rising-once low number r (End t ∷ front) back h = let o = rising-once low number r front back h in record { front_lacks = (tt, o.front_lacks); back_lacks = o.back_lacks; high = o.high }
+rising-once low number r (_ ∷ front) back h = let o = rising-once low number r front back h in record { front_lacks = (tt, o.front_lacks); back_lacks = o.back_lacks; high = o.high }
 
 pub open-once : (low number count : ℕ) (tag : Tag) (r : Run) (front back : List Event) → Rising low (front ++ Rest number r ∷ back)
     → open_at number count tag (front ++ Rest number r ∷ back) ≡ front ++ Rest number (taken count r) ∷ Start tag ∷ back
@@ -177,6 +167,10 @@ pub pair-events-written : (c : Run) (e : Entry) (below : List Entry) (items : Li
     → (let tag = tag_of c.character (used e.run c) in events_of (with_opened e.place (used e.run c) runs pairs) (with_pair tag e.place runs pairs) parts ++ ends (drop first (with_pair tag e.place runs pairs)))
     ≡ pair_events c e below (events_of runs pairs parts ++ ends (drop first pairs)) items f
 pair-events-written c e below items runs pairs parts first are h f rising =
+    let count = used e.run c in
+    let tag = tag_of c.character count in
+    let p : Pair = record { tag = tag; before = (get_or runs e.place no_run).opened } in
+    let more = with_pair tag e.place runs pairs in
     ap (λ t. t ++ ends (drop first more)) (pair-written e.place count tag runs pairs parts are)
     ∙ ap (λ t. open_at e.place count tag (events_of runs pairs parts) ++ t) (ap ends (drop-append-le first pairs (p ∷ []) h) ∙ map-append (λ (q : Pair). End q.tag) (drop first pairs) (p ∷ []))
     ∙ sym (append_assoc (open_at e.place count tag (events_of runs pairs parts)) (ends (drop first pairs)) (End tag ∷ []))
@@ -187,15 +181,3 @@ pair-events-written c e below items runs pairs parts first are h f rising =
     ∙ open-once 0 e.place count tag e.run f.front f.back (subst (Rising 0) f.events rising))
     ∙ append_assoc f.front (Rest e.place (taken count e.run) ∷ Start tag ∷ f.back) (End tag ∷ [])
     ∙ sym (append_assoc f.front (Rest e.place (taken count e.run) ∷ []) (Start tag ∷ f.back ++ End tag ∷ []))
-  where
-    count : ℕ
-    count = used e.run c
-
-    tag : Tag
-    tag = tag_of c.character count
-
-    p : Pair
-    p = record { tag = tag; before = (get_or runs e.place no_run).opened }
-
-    more : List Pair
-    more = with_pair tag e.place runs pairs

@@ -22,34 +22,22 @@ rising-behind-of low fs gs h = go fs low h
     lower : (n m : ℕ) (gs : List Event) → n ≤ m → Rising m gs → Rising n gs
     lower n m [] p h = tt
     lower n m (Rest k r ∷ gs) p h = (omega (arith, p, h.0), h.1)
-    lower n m (Text t ∷ gs) p h = lower n m gs p h
-    lower n m (Whole t ∷ gs) p h = lower n m gs p h
-    lower n m (Start t ∷ gs) p h = lower n m gs p h
-    lower n m (End t ∷ gs) p h = lower n m gs p h
+    lower n m (_ ∷ gs) p h = lower n m gs p h
 
     go : (fs : List Event) (low : ℕ) → Rising low (fs ++ gs) → Rising low gs
     go [] low h = h
     go (Rest k r ∷ fs) low h = lower low (suc k) gs (omega (arith, h.0)) (go fs (suc k) h.1)
-    go (Text t ∷ fs) low h = go fs low h
-    go (Whole t ∷ fs) low h = go fs low h
-    go (Start t ∷ fs) low h = go fs low h
-    go (End t ∷ fs) low h = go fs low h
+    go (_ ∷ fs) low h = go fs low h
 
 pub rising-lower : (n m : ℕ) (gs : List Event) → n ≤ m → Rising m gs → Rising n gs
 rising-lower n m [] p h = tt
 rising-lower n m (Rest k r ∷ gs) p h = (omega (arith, p, h.0), h.1)
-rising-lower n m (Text t ∷ gs) p h = rising-lower n m gs p h
-rising-lower n m (Whole t ∷ gs) p h = rising-lower n m gs p h
-rising-lower n m (Start t ∷ gs) p h = rising-lower n m gs p h
-rising-lower n m (End t ∷ gs) p h = rising-lower n m gs p h
+rising-lower n m (_ ∷ gs) p h = rising-lower n m gs p h
 
 pub rising-join : (low n : ℕ) (fs gs : List Event) → low ≤ n → Rising low fs → AreLow n fs → Rising n gs → Rising low (fs ++ gs)
 rising-join low n [] gs p h a g = rising-lower low n gs p g
 rising-join low n (Rest k r ∷ fs) gs p h a g = (h.0, rising-join (suc k) n fs gs (omega (arith, a.0)) h.1 a.1 g)
-rising-join low n (Text t ∷ fs) gs p h a g = rising-join low n fs gs p h a g
-rising-join low n (Whole t ∷ fs) gs p h a g = rising-join low n fs gs p h a g
-rising-join low n (Start t ∷ fs) gs p h a g = rising-join low n fs gs p h a g
-rising-join low n (End t ∷ fs) gs p h a g = rising-join low n fs gs p h a g
+rising-join low n (_ ∷ fs) gs p h a g = rising-join low n fs gs p h a g
 
 -- the next number may be a higher one
 under-more : (n m : ℕ) (ms : List Part) → n ≤ m → AreUnder n ms → AreUnder m ms
@@ -67,11 +55,8 @@ pub rising-done : (done : List Part) (s : State) (before : List Item) → PartsH
 rising-done done s before w = rising-front 0 (events_of s.runs s.pairs done) (ends (drop (length s.pairs) s.pairs)) w.rising
 
 pub not-run : (before : List Item) (item : Item) → is_run item ≡ false → passed before item ≡ item ∷ before
-not-run before (Characters t) h = refl
-not-run before (Finished i) h = refl
-not-run before (Linked i) h = refl
-not-run before (Opener b t) h = refl
 not-run before (Delimiters r) h = absurd (cc h)
+not-run before _ h = refl
 
 -- at first nothing waits, and no bottom is known
 abbrev pub beginning : List PairedRun → List Pair → (looks next : ℕ) → State

@@ -67,11 +67,10 @@ one-more false looks paid own whole ahead later total p e f = omega (arith, p, e
 
 -- a new item
 new-is : (kinds : ℕ) (item : items.Item) → IsNew kinds item → IsOf kinds item × (item_emphases item ≡ 0)
-new-is kinds (items.Characters text) fresh = (tt, refl)
 new-is kinds (items.Finished inline) fresh = (tt, fresh)
 new-is kinds (items.Linked inline) fresh = (tt, fresh)
 new-is kinds (items.Delimiters run) fresh = (fresh.0, refl)
-new-is kinds (items.Opener image behind) fresh = (tt, refl)
+new-is kinds _ fresh = (tt, refl)
 
 run-pays : (strike : Bool) (run : Run) → IsNew (kinds_with strike) (items.Delimiters run) → allowed (kinds_with strike) (items.Delimiters run) ≤ looks_with strike * characters_of (run ∷ [])
 run-pays true run fresh = omega (arith, fresh.1, fresh.2, sum_by-cons (λ (r : Run). r.whole) run [])

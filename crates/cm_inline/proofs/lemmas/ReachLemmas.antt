@@ -17,13 +17,14 @@ use Rattle.cm_inline.specs.steps.Depths.{items_depth}
 use Rattle.cm_inline.specs.steps.Openers.{spent}
 use Rattle.cm_inline.specs.steps.Pairs.{items_emphases, allowed, allowance, AreOf, AreLooks}
 use Rattle.cm_inline.specs.steps.Runs.{paired_run, run_of, runs_in}
-use Rattle.cm_inline.proofs.lemmas.ClosingLemmas.{events-append, low-parts}
+use Rattle.cm_inline.proofs.lemmas.ClosingLemmas.{low-parts}
 use Rattle.cm_inline.proofs.lemmas.EmphasisLemmas.{reversed-hold}
 use Rattle.cm_inline.proofs.lemmas.KeptLemmas.{segments-grow, segments-same, segments-from}
 use Rattle.cm_inline.proofs.lemmas.PairDepthLemmas.{pass-deeper}
 use Rattle.cm_inline.proofs.lemmas.PassLemmas.{with_next, holds-raised, holds-nothing, beginning, nothing-spent, not-run, rising-join, rising-done}
 use Rattle.cm_inline.proofs.lemmas.ReadingLemmas.{starts-append}
 use Rattle.cm_inline.proofs.lemmas.SegmentLemmas.{pass-made, pass-pairs}
+use Rattle.cm_inline.proofs.lemmas.LaidLemmas.{events-append}
 
 -- Those that are done stand for items, the last first, of which the pass makes with those ahead what it makes of all. The looks are paid for.
 pub record Reached (looks : ℕ) (inside : List Segment) (s : State) (done ahead : List Segment) (before : List Item) : Type 0 where

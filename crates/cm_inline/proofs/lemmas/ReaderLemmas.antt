@@ -33,12 +33,13 @@ use Rattle.cm_inline.specs.steps.Brackets.{MarkedLeaf, is_opener, has_opener, Ar
 use Rattle.cm_inline.specs.steps.Marks.{mark_at, part_of_kind, texts, parts_between, stays_text, is_escaped, IsUnmarked, IsOfKind, AreLaid}
 use Rattle.cm_inline.specs.steps.Missing.{Knows}
 use Rattle.cm_inline.specs.steps.Reads.{IsAtom, item_in, inline_in, IsThere, IsInline, IsTextTo, Pays, ahead, text_items}
+use Rattle.cm_inline.specs.steps.Standalone.{IsBetween}
 use Rattle.cm_inline.specs.steps.Runs.{run_of, runs_in, pairs_in, byte_of}
 use Rattle.cm_inline.proofs.lemmas.DepthLemmas.{inline-shallow}
 use Rattle.cm_inline.proofs.lemmas.JoinLemmas.{later-more, parts-none, parts-one}
 use Rattle.cm_inline.proofs.lemmas.OpenLemmas.{open-more, open-later, open-opened, items-append, all_parts-append, numbers-append}
 use Rattle.cm_inline.proofs.lemmas.PaysLemmas.{nothing-pays, text-pays, atom-more-pays}
-use Rattle.cm_inline.proofs.lemmas.ClosingLemmas.{events-append, chain-zero}
+use Rattle.cm_inline.proofs.lemmas.ClosingLemmas.{chain-zero}
 use Rattle.cm_inline.proofs.lemmas.ReadingLemmas.{starts-append}
 use Rattle.cm_inline.proofs.lemmas.SliceLemmas.{slice-none}
 use Rattle.cm_inline.specs.declared.delimiter_runs.Marker.{Marker}
@@ -51,9 +52,11 @@ use Rattle.cm_inline.specs.steps.Runs.{paired_run}
 use Rattle.cm_inline.proofs.lemmas.StandLemmas.{events-more, segments-parts, text-stands, cut-stands, opener-stands, inline-stands, known-made, texts-known, texts-stand, stays-any, AreKnown, runs-append}
 use Rattle.cm_inline.proofs.lemmas.CallerLemmas.{behind-append, segments-append, segments-push, chained-none, chained-push}
 use Rattle.cm_inline.proofs.lemmas.WholeLemmas.{ahead-start, ahead-text, ahead-atom}
+use Rattle.cm_inline.proofs.lemmas.LaidLemmas.{events-append}
 
-nothing-unmarked : (lines : Bool) (source : List ℕ) (at : ℕ) → IsCharBoundary source at → IsUnmarked lines source at at
-nothing-unmarked lines source at boundary = record { between = (omega arith, boundary, boundary); text = ap (list_all (stays_text lines)) (slice-none source at) }
+-- between a place and itself there is no text
+pub none-laid : (lines : Bool) (source : List ℕ) (at : ℕ) → IsCharBoundary source at → IsUnmarked lines source at at
+none-laid lines source at boundary = record { between = (omega arith, boundary, boundary); text = ap (list_all (stays_text lines)) (slice-none source at) }
 
 -- views that are the same in each part
 pub same-view : (v w : View) → v.lines ≡ w.lines → v.marks ≡ w.marks → v.runs ≡ w.runs → v.waiting ≡ w.waiting → v.pairs ≡ w.pairs → v.links ≡ w.links → v.links_end ≡ w.links_end → v.ends ≡ w.ends → v ≡ w
@@ -75,7 +78,7 @@ fresh-read source targets lines ends short utf8 knows =
       utf8 = utf8;
       boundary = start;
       knows = knows;
-      open_are = record { parts = sym (parts-none lines source targets [] [] 0); laid = nothing-unmarked lines source 0 start; none = refl };
+      open_are = record { parts = sym (parts-none lines source targets [] [] 0); laid = none-laid lines source 0 start; none = refl };
       segments_are = tt;
       runs_are = tt;
       waiting = refl;
@@ -129,52 +132,156 @@ pub record AreMore (source : List ℕ) (targets : Targets) (v : View) (at end : 
 abbrev pub more_view : View → List Mark → MissingEnds → View
 more_view v marks ends = record { lines = v.lines; marks = v.marks ++ marks; runs = v.runs; waiting = v.waiting; pairs = v.pairs; links = v.links; links_end = v.links_end; ends = ends }
 
-module _ (source : List ℕ) (targets : Targets) (v : View) (bs : List Bracket) (segments : List Segment) (at end : ℕ) (marks : List Mark) (parts : List Part) (item : Item) (ends : MissingEnds)
-    (m : AreMore source targets v at end marks parts item) (knows : Knows source ends) (r : IsRead source targets at v bs segments) where
-  abbrev leaf : MarkedLeaf
-  leaf = leaf_of source targets v
-
-  abbrev runs : List PairedRun
-  runs = runs_in v.runs
-
-  abbrev pairs : List Pair
-  pairs = pairs_in v.pairs
-
+-- a segment more, with no run in it and no start
+module _ (source : List ℕ) (targets : Targets) (v : View) (bs : List Bracket) (segments : List Segment) (at end : ℕ) (parts : List Part) (item : Item) (ends : MissingEnds) (further : at < end) (boundary : IsCharBoundary source end) (knows : Knows source ends)
+    (known : AreKnown parts) (other : is_run item ≡ false) (stands : StandFor (events_of (runs_in v.runs) (pairs_in v.pairs) parts) (item ∷ [])) (no_start : starts_in (events_of (runs_in v.runs) (pairs_in v.pairs) parts) ≡ 0) (r : IsRead source targets at v bs segments) where
   abbrev more : List Segment
   more = Made parts item (number_after 0 segments) ∷ []
 
-  more-closed : AreClosed leaf at end more marks
-  unfolding all_parts items_in has_opener
-  more-closed = record { parts = append-nil parts ∙ m.parts_are; laid = m.laid; none = ap (λ b. b || false) m.closed }
-
-  more-open : AreOpen leaf bs (segments ++ more) (v.marks ++ marks) end false
-  unfolding items_in holds_link
-  more-open = open-more leaf bs segments more v.marks marks at end false (subst (λ b. AreOpen leaf bs segments v.marks at ((b || false) || false)) (sym m.unlinked) r.open_are) more-closed
-
-  more-starts : starts_in (events_of runs pairs (all_parts (segments ++ more))) ≡ starts_in (events_of runs pairs (all_parts segments))
-  unfolding all_parts
-  more-starts =
-      let none : starts_in (events_of runs pairs (parts ++ [])) ≡ 0 = ap (λ t. starts_in (events_of runs pairs t)) (append-nil parts) ∙ m.no_start in
-      omega (arith, starts-more runs pairs segments more, none)
-
-  pub more-read : IsRead source targets end (more_view v marks ends) bs (segments ++ more)
-  unfolding numbers_in number_after
-  more-read = record {
+  pub made-read : (now : List Bracket) (marks : List Mark) → AreOpen (leaf_of source targets v) now (segments ++ more) (v.marks ++ marks) end false → IsRead source targets end (more_view v marks ends) now (segments ++ more)
+  unfolding all_parts numbers_in number_after
+  made-read now marks are = record {
     short = r.short;
     utf8 = r.utf8;
-    boundary = m.boundary;
+    boundary = boundary;
     knows = knows;
-    open_are = more-open;
-    segments_are = segments-append 0 runs pairs segments more r.segments_are (known-made runs pairs (number_after 0 segments) parts item m.known m.other m.stands, tt);
+    open_are = are;
+    segments_are = segments-append 0 (runs_in v.runs) (pairs_in v.pairs) segments more r.segments_are (known-made (runs_in v.runs) (pairs_in v.pairs) (number_after 0 segments) parts item known other stands, tt);
     runs_are = runs-append segments more r.runs_are tt;
     waiting = r.waiting ∙ sym (append-nil (numbers_in segments)) ∙ sym (numbers-append segments more);
     chained = r.chained;
     links_low = omega (arith, r.links_low, length-append v.marks marks);
-    few_runs = omega (arith, r.few_runs, m.further);
-    few_links = omega (arith, r.few_links, m.further);
+    few_runs = omega (arith, r.few_runs, further);
+    few_links = omega (arith, r.few_links, further);
     high = subst (λ n. n ≤ length v.runs) (sym (behind-append 0 segments more)) r.high;
-    starts = omega (arith, r.starts, more-starts);
+    starts = omega (arith, r.starts, starts-more (runs_in v.runs) (pairs_in v.pairs) segments more, ap (λ t. starts_in (events_of (runs_in v.runs) (pairs_in v.pairs) t)) (append-nil parts), no_start);
   }
+
+pub more-read : (source : List ℕ) (targets : Targets) (v : View) (bs : List Bracket) (segments : List Segment) (at end : ℕ) (marks : List Mark) (parts : List Part) (item : Item) (ends : MissingEnds) → AreMore source targets v at end marks parts item → Knows source ends
+    → IsRead source targets at v bs segments → IsRead source targets end (more_view v marks ends) bs (segments ++ Made parts item (number_after 0 segments) ∷ [])
+unfolding all_parts items_in has_opener holds_link
+more-read source targets v bs segments at end marks parts item ends m knows r =
+    let leaf = leaf_of source targets v in
+    let more = Made parts item (number_after 0 segments) ∷ [] in
+    let closed : AreClosed leaf at end more marks = record { parts = append-nil parts ∙ m.parts_are; laid = m.laid; none = ap (λ b. b || false) m.closed } in
+    made-read source targets v bs segments at end parts item ends m.further m.boundary knows m.known m.other m.stands m.no_start r bs marks
+    (open-more leaf bs segments more v.marks marks at end false (subst (λ b. AreOpen leaf bs segments v.marks at ((b || false) || false)) (sym m.unlinked) r.open_are) closed)
+
+-- An atom as marks that stand for its item, unless it is a run or a bracket.
+
+stays-apart : (b : ℕ) → is_escaped b ≡ false → (b == 10) ≡ false → stays_text true b ≡ true
+stays-apart b e f = ap (λ v. not v && not (true && b == 10)) e ∙ ap not f
+
+module _ (source : List ℕ) (targets : Targets) (v : View) (at end : ℕ) (start : IsCharBoundary source at) (further : at < end) (boundary : IsCharBoundary source end) where
+  abbrev runs_v : List PairedRun
+  runs_v = runs_in v.runs
+
+  abbrev pairs_v : List Pair
+  pairs_v = pairs_in v.pairs
+
+  abbrev low : at ≤ end
+  low = omega (arith, further)
+
+  abbrev More : (marks : List Mark) (parts : List Part) (item : Item) → Type 0
+  More marks parts item = AreMore source targets v at end marks parts item
+
+  -- marks and parts that are no run, no bracket and no link
+  more-by : (marks : List Mark) (parts : List Part) (item : Item) → AreLaid v.lines source targets v.runs v.links at end marks → parts ≡ parts_between source targets v.links at end marks → AreKnown parts
+      → (is_run item ≡ false) × (is_opener item ≡ false) × (is_linked item ≡ false) → StandFor (events_of runs_v pairs_v parts) (item ∷ []) → starts_in (events_of runs_v pairs_v parts) ≡ 0 → More marks parts item
+  more-by marks parts item laid same known other stands starts =
+      record { further = further; boundary = boundary; laid = laid; parts_are = same; known = known; other = other.0; closed = other.1; unlinked = other.2; stands = stands; no_start = starts }
+
+  -- text, of which each byte stays text
+  text-more : list_all (stays_text true) (slice_range source at end) ≡ true → More [] (texts (slice_range source at end)) (Characters (slice_range source at end))
+  unfolding parts_between
+  text-more stays =
+      let text = slice_range source at end in
+      more-by [] (texts text) (Characters text) (record { between = (low, start, boundary); text = stays-any v.lines text stays }) refl (texts-known text) (refl, refl, refl) (texts-stand runs_v pairs_v text stays) (texts-start runs_v pairs_v text)
+
+  -- one mark of a known event
+  one-more : (kind : Kind) (e : Event) (item : Item) → part_of_kind source targets v.links at end kind ≡ Known (e ∷ []) → IsOfKind source targets v.runs v.links at end kind → IsNoRun e → starts_in (e ∷ []) ≡ 0
+      → (is_run item ≡ false) × (is_opener item ≡ false) × (is_linked item ≡ false) → StandFor (e ∷ []) (item ∷ []) → More (mark_at at end kind ∷ []) (Known (e ∷ []) ∷ []) item
+  unfolding events_of
+  one-more kind e item part is none starts other stands =
+      more-by (mark_at at end kind ∷ []) (Known (e ∷ []) ∷ []) item (none-laid v.lines source at start, (low, start, boundary), is, none-laid v.lines source end boundary)
+      (ap (λ p. p ∷ []) (sym part) ∙ sym (parts-one v.lines source targets v.runs v.links (mark_at at end kind))) ((none, tt), tt) other stands starts
+
+  -- an inline of its own
+  whole-part : (kind : Kind) → IsInline source at end kind → (part_of_kind source targets v.links at end kind ≡ Known (Whole (inline_in source at end kind) ∷ [])) × IsOfKind source targets v.runs v.links at end kind
+  whole-part (kinds.Code from to) is = (refl, is)
+  whole-part kinds.Html is = (refl, tt)
+  whole-part (kinds.Autolink is_address) is = (refl, is)
+  whole-part kinds.Soft is = (refl, tt)
+  whole-part kinds.Hard is = (refl, tt)
+  whole-part _ is = absurd is
+
+  pub whole-more : (kind : Kind) → IsInline source at end kind → More (mark_at at end kind ∷ []) (Known (Whole (inline_in source at end kind) ∷ []) ∷ []) (Finished (inline_in source at end kind))
+  whole-more kind is =
+      let i = inline_in source at end kind in
+      let part = whole-part kind is in
+      one-more kind (Whole i) (Finished i) part.0 part.1 tt refl (refl, refl, refl) (inline-stands i (inline-shallow source at end kind))
+
+  -- a character that HTML escapes
+  pub escaped-more : IsThere source at end atoms.Escaped → More (mark_at at end kinds.Escaped ∷ []) (Known (Text (slice_range source at end) ∷ []) ∷ []) (Characters (slice_range source at end))
+  escaped-more is = one-more kinds.Escaped (Text (slice_range source at end)) (Characters (slice_range source at end)) refl is tt refl (refl, refl, refl) (text-stands (slice_range source at end))
+
+  -- a line feed
+  pub feed-more : (lines : Bool) → v.lines ≡ lines → IsThere source at end atoms.LineFeed → More (if lines then mark_at at end kinds.Soft ∷ [] else []) (Known (Whole inline.Soft ∷ []) ∷ []) (Finished inline.Soft)
+  unfolding events_of parts_between
+  feed-more true e is = whole-more kinds.Soft tt
+  feed-more false e is =
+      more-by [] (Known (Whole inline.Soft ∷ []) ∷ []) (Finished inline.Soft)
+      (record { between = (low, start, boundary); text = ap (λ l. list_all (stays_text l) (slice_range source at end)) e ∙ ap (list_all (stays_text false)) is.1 })
+      (sym (ap texts is.1)) ((tt, tt), tt) (refl, refl, refl) (inline-stands inline.Soft (inline-shallow source at end kinds.Soft)) refl
+
+  -- the characters of a reference
+  pub reference-more : (chars : Chars) (second : Option ℕ) → chars.second ≡ second
+      → More (mark_at at end (kinds.Character chars.first) ∷ (elim second as (λ _. List Mark) [ None ↦ [] | Some c ↦ mark_at end end (kinds.Character c) ∷ [] ]))
+      (Known (Text (encode_utf8 chars.first) ∷ []) ∷ (elim second as (λ _. List Part) [ None ↦ [] | Some c ↦ Known (Text (encode_utf8 c) ∷ []) ∷ [] ])) (Characters (encode_utf8_all (chars_of chars)))
+  unfolding events_of parts_between
+  reference-more chars None e =
+      let first = encode_utf8 chars.first in
+      let same : concat (first ∷ []) ≡ encode_utf8_all (chars_of chars) = ap (λ o. encode_utf8_all (chars.first ∷ elim o as (λ _. List ℕ) [ None ↦ [] | Some second ↦ second ∷ [] ])) (sym e) in
+      one-more (kinds.Character chars.first) (Text first) (Characters (encode_utf8_all (chars_of chars))) refl tt tt refl (refl, refl, refl) (subst (λ t. StandFor (Text first ∷ []) (Characters t ∷ [])) same (cut-stands (first ∷ [])))
+  reference-more chars (Some c) e =
+      let first = encode_utf8 chars.first in
+      let second = encode_utf8 c in
+      let same : concat (first ∷ second ∷ []) ≡ encode_utf8_all (chars_of chars) = ap (λ o. encode_utf8_all (chars.first ∷ elim o as (λ _. List ℕ) [ None ↦ [] | Some second ↦ second ∷ [] ])) (sym e) in
+      let whole : end ≤ end = omega arith in
+      more-by (mark_at at end (kinds.Character chars.first) ∷ mark_at end end (kinds.Character c) ∷ []) (Known (Text first ∷ []) ∷ Known (Text second ∷ []) ∷ []) (Characters (encode_utf8_all (chars_of chars)))
+      (none-laid v.lines source at start, (low, start, boundary), tt, (none-laid v.lines source end boundary, (whole, boundary, boundary), tt, none-laid v.lines source end boundary))
+      (simp (slice-none source at, slice-none source end)) ((tt, tt), ((tt, tt), tt)) (refl, refl, refl)
+      (subst (λ t. StandFor (Text first ∷ Text second ∷ []) (Characters t ∷ [])) same (cut-stands (first ∷ second ∷ []))) refl
+
+  -- a backslash and what it escapes
+  abbrev escape_marks : Bool → List Mark
+  escape_marks escaped = mark_at at (at + 1) kinds.Nothing ∷ (if escaped then mark_at (at + 1) end kinds.Escaped ∷ [] else [])
+
+  abbrev escape_parts : Bool → List Part
+  escape_parts escaped = Known [] ∷ (if escaped then Known (Text (slice_range source (at + 1) end) ∷ []) ∷ [] else texts (slice_range source (at + 1) end))
+
+  pub escape-more : (escaped : Bool) → is_escaped (slice_index source (at + 1)) ≡ escaped → IsThere source at end atoms.Escape → More (escape_marks escaped) (escape_parts escaped) (Characters (slice_range source (at + 1) end))
+  unfolding events_of parts_between
+  escape-more escaped e is = go escaped (ap is_escaped is.4 ∙ e)
+    where
+      text : List ℕ
+      text = slice_range source (at + 1) end
+
+      first : IsBetween source at (at + 1)
+      first = (omega arith, start, is.2)
+
+      second : IsBetween source (at + 1) end
+      second = (omega (arith, is.1), is.2, boundary)
+
+      go : (escaped : Bool) → is_escaped is.0 ≡ escaped → More (escape_marks escaped) (escape_parts escaped) (Characters text)
+      go true e =
+          more-by (escape_marks true) (escape_parts true) (Characters text)
+          (none-laid v.lines source at start, first, tt, (none-laid v.lines source (at + 1) is.2, second, (is.0, e, is.3), none-laid v.lines source end boundary))
+          (simp (slice-none source at, slice-none source (at + 1), slice-none source end)) (tt, ((tt, tt), tt)) (refl, refl, refl) (text-stands text) refl
+      go false e =
+          let stays : list_all (stays_text true) text ≡ true = ap (list_all (stays_text true)) is.3 ∙ ap (λ v. v && true) (stays-apart is.0 e is.5) in
+          more-by (escape_marks false) (escape_parts false) (Characters text) (none-laid v.lines source at start, first, tt, record { between = second; text = stays-any v.lines text stays })
+          (simp (slice-none source at)) (tt, texts-known text) (refl, refl, refl) (texts-stand runs_v pairs_v text stays) (texts-start runs_v pairs_v text)
 
 -- Text more, of which each byte stays text.
 pub record IsText (source : List ℕ) (at end : ℕ) : Type 0 where
@@ -185,30 +292,12 @@ pub record IsText (source : List ℕ) (at end : ℕ) : Type 0 where
 abbrev pub text_segment : List ℕ → List Segment → (at end : ℕ) → Segment
 text_segment source segments at end = Made (texts (slice_range source at end)) (Characters (slice_range source at end)) (number_after 0 segments)
 
-text-more : (source : List ℕ) (targets : Targets) (v : View) (at end : ℕ) → IsCharBoundary source at → IsText source at end → AreMore source targets v at end [] (texts (slice_range source at end)) (Characters (slice_range source at end))
-unfolding parts_between
-text-more source targets v at end start is =
-    let low : at ≤ end = omega (arith, is.further) in
-    let text = slice_range source at end in
-    record {
-      further = is.further;
-      boundary = is.boundary;
-      laid = record { between = (low, start, is.boundary); text = stays-any v.lines text is.stays };
-      parts_are = refl;
-      known = texts-known text;
-      other = refl;
-      closed = refl;
-      unlinked = refl;
-      stands = texts-stand (runs_in v.runs) (pairs_in v.pairs) text is.stays;
-      no_start = texts-start (runs_in v.runs) (pairs_in v.pairs) text;
-    }
-
 pub text-read : (source : List ℕ) (targets : Targets) (v : View) (bs : List Bracket) (segments : List Segment) (at end : ℕ) → IsText source at end → IsRead source targets at v bs segments
     → IsRead source targets end v bs (segments ++ text_segment source segments at end ∷ [])
 text-read source targets v bs segments at end is r =
     let text = slice_range source at end in
     subst (λ ms. IsRead source targets end (record v { marks = ms }) bs (segments ++ text_segment source segments at end ∷ [])) (append-nil v.marks)
-    (more-read source targets v bs segments at end [] (texts text) (Characters text) v.ends (text-more source targets v at end r.boundary is) r.knows r)
+    (more-read source targets v bs segments at end [] (texts text) (Characters text) v.ends (text-more source targets v at end r.boundary is.further is.boundary is.stays) r.knows r)
 
 -- the items with text more
 pub text-items : (source : List ℕ) (segments : List Segment) (at end : ℕ) → items_in (segments ++ text_segment source segments at end ∷ []) ≡ items_in segments ++ Characters (slice_range source at end) ∷ []
@@ -244,185 +333,6 @@ text-goes rules source targets at end reader is g = go (nat_lt at end) refl
         let none : end ≤ at = grind (arith, nat_tests, e) in
         let same : at ≡ end = omega (arith, none, is.low) in
         subst (λ n. Reading rules source targets n reader) same g
-
--- An atom as marks that stand for its item, unless it is a run or a bracket.
-
--- between a place and itself there is no text
-pub none-laid : (lines : Bool) (source : List ℕ) (at : ℕ) → IsCharBoundary source at → IsUnmarked lines source at at
-none-laid lines source at boundary = nothing-unmarked lines source at boundary
-
-stays-apart : (b : ℕ) → is_escaped b ≡ false → (b == 10) ≡ false → stays_text true b ≡ true
-stays-apart b e f = ap (λ v. not v && not (true && b == 10)) e ∙ ap not f
-
-module _ (source : List ℕ) (targets : Targets) (v : View) (at end : ℕ) (start : IsCharBoundary source at) (further : at < end) (boundary : IsCharBoundary source end) where
-  abbrev runs_v : List PairedRun
-  runs_v = runs_in v.runs
-
-  abbrev pairs_v : List Pair
-  pairs_v = pairs_in v.pairs
-
-  abbrev low : at ≤ end
-  low = omega (arith, further)
-
-  -- one mark of a known event
-  one-more : (kind : Kind) (e : Event) (item : Item) → part_of_kind source targets v.links at end kind ≡ Known (e ∷ []) → IsOfKind source targets v.runs v.links at end kind → IsNoRun e → starts_in (e ∷ []) ≡ 0 → StandFor (e ∷ []) (item ∷ [])
-      → is_run item ≡ false → is_opener item ≡ false → is_linked item ≡ false → AreMore source targets v at end (mark_at at end kind ∷ []) (Known (e ∷ []) ∷ []) item
-  unfolding events_of
-  one-more kind e item part is none starts stands other closed unlinked = record {
-    further = further;
-    boundary = boundary;
-    laid = (none-laid v.lines source at start, (low, start, boundary), is, none-laid v.lines source end boundary);
-    parts_are = ap (λ p. p ∷ []) (sym part) ∙ sym (parts-one v.lines source targets v.runs v.links (mark_at at end kind));
-    known = ((none, tt), tt);
-    other = other;
-    closed = closed;
-    unlinked = unlinked;
-    stands = stands;
-    no_start = starts;
-  }
-
-  -- an inline of its own
-  whole-part : (kind : Kind) → IsInline source at end kind → part_of_kind source targets v.links at end kind ≡ Known (Whole (inline_in source at end kind) ∷ [])
-  whole-part (kinds.Code from to) is = refl
-  whole-part kinds.Html is = refl
-  whole-part (kinds.Autolink is_address) is = refl
-  whole-part kinds.Soft is = refl
-  whole-part kinds.Hard is = refl
-  whole-part kinds.Plain is = absurd is
-  whole-part kinds.Escaped is = absurd is
-  whole-part kinds.Nothing is = absurd is
-  whole-part (kinds.Character c) is = absurd is
-  whole-part (kinds.Run number) is = absurd is
-  whole-part (kinds.Start number) is = absurd is
-  whole-part (kinds.End number) is = absurd is
-
-  whole-kind : (kind : Kind) → IsInline source at end kind → IsOfKind source targets v.runs v.links at end kind
-  whole-kind (kinds.Code from to) is = is
-  whole-kind kinds.Html is = tt
-  whole-kind (kinds.Autolink is_address) is = is
-  whole-kind kinds.Soft is = tt
-  whole-kind kinds.Hard is = tt
-  whole-kind kinds.Plain is = absurd is
-  whole-kind kinds.Escaped is = absurd is
-  whole-kind kinds.Nothing is = absurd is
-  whole-kind (kinds.Character c) is = absurd is
-  whole-kind (kinds.Run number) is = absurd is
-  whole-kind (kinds.Start number) is = absurd is
-  whole-kind (kinds.End number) is = absurd is
-
-  pub whole-more : (kind : Kind) → IsInline source at end kind → AreMore source targets v at end (mark_at at end kind ∷ []) (Known (Whole (inline_in source at end kind) ∷ []) ∷ []) (Finished (inline_in source at end kind))
-  whole-more kind is =
-      one-more kind (Whole (inline_in source at end kind)) (Finished (inline_in source at end kind)) (whole-part kind is) (whole-kind kind is) tt refl
-      (inline-stands (inline_in source at end kind) (inline-shallow source at end kind)) refl refl refl
-
-  -- a character that HTML escapes
-  pub escaped-more : IsThere source at end atoms.Escaped → AreMore source targets v at end (mark_at at end kinds.Escaped ∷ []) (Known (Text (slice_range source at end) ∷ []) ∷ []) (Characters (slice_range source at end))
-  escaped-more is = one-more kinds.Escaped (Text (slice_range source at end)) (Characters (slice_range source at end)) refl is tt refl (text-stands (slice_range source at end)) refl refl refl
-
-  -- a line feed
-  pub feed-more : (lines : Bool) → v.lines ≡ lines → IsThere source at end atoms.LineFeed
-      → AreMore source targets v at end (if lines then mark_at at end kinds.Soft ∷ [] else []) (Known (Whole inline.Soft ∷ []) ∷ []) (Finished inline.Soft)
-  unfolding events_of parts_between
-  feed-more true e is = whole-more kinds.Soft tt
-  feed-more false e is = record {
-    further = further;
-    boundary = boundary;
-    laid = record { between = (low, start, boundary); text = ap (λ l. list_all (stays_text l) (slice_range source at end)) e ∙ ap (list_all (stays_text false)) is.1 };
-    parts_are = sym (ap texts is.1);
-    known = ((tt, tt), tt);
-    other = refl;
-    closed = refl;
-    unlinked = refl;
-    stands = inline-stands inline.Soft (inline-shallow source at end kinds.Soft);
-    no_start = refl;
-  }
-
-  -- the characters of a reference
-  pub reference-more : (chars : Chars) (second : Option ℕ) → chars.second ≡ second
-      → AreMore source targets v at end (mark_at at end (kinds.Character chars.first) ∷ (elim second as (λ _. List Mark) [ None ↦ [] | Some c ↦ mark_at end end (kinds.Character c) ∷ [] ]))
-      (Known (Text (encode_utf8 chars.first) ∷ []) ∷ (elim second as (λ _. List Part) [ None ↦ [] | Some c ↦ Known (Text (encode_utf8 c) ∷ []) ∷ [] ])) (Characters (encode_utf8_all (chars_of chars)))
-  unfolding events_of parts_between
-  reference-more chars None e =
-      let first = encode_utf8 chars.first in
-      let same : concat (first ∷ []) ≡ encode_utf8_all (chars_of chars) = ap (λ o. encode_utf8_all (chars.first ∷ elim o as (λ _. List ℕ) [ None ↦ [] | Some second ↦ second ∷ [] ])) (sym e) in
-      record {
-        further = further;
-        boundary = boundary;
-        laid = (none-laid v.lines source at start, (low, start, boundary), tt, none-laid v.lines source end boundary);
-        parts_are = sym (parts-one v.lines source targets v.runs v.links (mark_at at end (kinds.Character chars.first)));
-        known = ((tt, tt), tt);
-        other = refl;
-        closed = refl;
-        unlinked = refl;
-        stands = subst (λ t. StandFor (Text first ∷ []) (Characters t ∷ [])) same (cut-stands (first ∷ []));
-        no_start = refl;
-      }
-  reference-more chars (Some c) e =
-      let first = encode_utf8 chars.first in
-      let second = encode_utf8 c in
-      let same : concat (first ∷ second ∷ []) ≡ encode_utf8_all (chars_of chars) = ap (λ o. encode_utf8_all (chars.first ∷ elim o as (λ _. List ℕ) [ None ↦ [] | Some second ↦ second ∷ [] ])) (sym e) in
-      let whole : end ≤ end = omega arith in
-      record {
-        further = further;
-        boundary = boundary;
-        laid = (none-laid v.lines source at start, (low, start, boundary), tt, (none-laid v.lines source end boundary, (whole, boundary, boundary), tt, none-laid v.lines source end boundary));
-        parts_are = sym (ap (λ t. texts t ++ Known (Text first ∷ []) ∷ (texts (slice_range source end end) ++ Known (Text second ∷ []) ∷ texts (slice_range source end end))) (slice-none source at)
-            ∙ ap (λ t. Known (Text first ∷ []) ∷ (texts t ++ Known (Text second ∷ []) ∷ texts t)) (slice-none source end));
-        known = ((tt, tt), ((tt, tt), tt));
-        other = refl;
-        closed = refl;
-        unlinked = refl;
-        stands = subst (λ t. StandFor (Text first ∷ Text second ∷ []) (Characters t ∷ [])) same (cut-stands (first ∷ second ∷ []));
-        no_start = refl;
-      }
-
-  -- a backslash and what it escapes
-  abbrev escape_marks : Bool → List Mark
-  escape_marks escaped = mark_at at (at + 1) kinds.Nothing ∷ (if escaped then mark_at (at + 1) end kinds.Escaped ∷ [] else [])
-
-  abbrev escape_parts : Bool → List Part
-  escape_parts escaped = Known [] ∷ (if escaped then Known (Text (slice_range source (at + 1) end) ∷ []) ∷ [] else texts (slice_range source (at + 1) end))
-
-  pub escape-more : (escaped : Bool) → is_escaped (slice_index source (at + 1)) ≡ escaped → IsThere source at end atoms.Escape → AreMore source targets v at end (escape_marks escaped) (escape_parts escaped) (Characters (slice_range source (at + 1) end))
-  unfolding events_of parts_between
-  escape-more true e is =
-      let b = is.0 in
-      let next = is.2 in
-      let text = slice_range source (at + 1) end in
-      let first : at ≤ at + 1 = omega arith in
-      let second : at + 1 ≤ end = omega (arith, is.1) in
-      record {
-        further = further;
-        boundary = boundary;
-        laid = (none-laid v.lines source at start, (first, start, next), tt, (none-laid v.lines source (at + 1) next, (second, next, boundary), (b, ap is_escaped is.4 ∙ e, is.3), none-laid v.lines source end boundary));
-        parts_are = sym (ap (λ t. texts t ++ Known [] ∷ (texts (slice_range source (at + 1) (at + 1)) ++ Known (Text text ∷ []) ∷ texts (slice_range source end end))) (slice-none source at)
-            ∙ ap (λ t. Known [] ∷ (texts t ++ Known (Text text ∷ []) ∷ texts (slice_range source end end))) (slice-none source (at + 1)) ∙ ap (λ t. Known [] ∷ Known (Text text ∷ []) ∷ texts t) (slice-none source end));
-        known = (tt, ((tt, tt), tt));
-        other = refl;
-        closed = refl;
-        unlinked = refl;
-        stands = text-stands text;
-        no_start = refl;
-      }
-  escape-more false e is =
-      let b = is.0 in
-      let next = is.2 in
-      let text = slice_range source (at + 1) end in
-      let first : at ≤ at + 1 = omega arith in
-      let second : at + 1 ≤ end = omega (arith, is.1) in
-      let stays : list_all (stays_text true) text ≡ true = ap (list_all (stays_text true)) is.3 ∙ ap (λ v. v && true) (stays-apart b (ap is_escaped is.4 ∙ e) is.5) in
-      record {
-        further = further;
-        boundary = boundary;
-        laid = (none-laid v.lines source at start, (first, start, next), tt, record { between = (second, next, boundary); text = stays-any v.lines text stays });
-        parts_are = sym (ap (λ t. texts t ++ Known [] ∷ texts text) (slice-none source at));
-        known = (tt, texts-known text);
-        other = refl;
-        closed = refl;
-        unlinked = refl;
-        stands = texts-stand runs_v pairs_v text stays;
-        no_start = texts-start runs_v pairs_v text;
-      }
 
 -- A run more, which waits.
 abbrev pub run_view : View → (at end : ℕ) → DelimiterRun → MissingEnds → View
@@ -530,32 +440,13 @@ module _ (source : List ℕ) (targets : Targets) (v : View) (bs : List Bracket) 
   abbrev one_bracket : List Segment
   one_bracket = opened source new_bracket (number_after 0 segments) ∷ []
 
-  bracket-starts : starts_in (events_for v (segments ++ one_bracket)) ≡ starts_in (events_for v segments)
-  unfolding all_parts events_of
-  bracket-starts =
-      let none : starts_in (events_of (runs_in v.runs) (pairs_in v.pairs) (all_parts one_bracket)) ≡ 0 = refl in
-      omega (arith, starts-more (runs_in v.runs) (pairs_in v.pairs) segments one_bracket, none)
-
   pub bracket-read : IsRead source targets end (bracket_view v at end ends) (new_bracket ∷ bs) (segments ++ one_bracket)
-  unfolding numbers_in number_after events_of
-  bracket-read = record {
-    short = r.short;
-    utf8 = r.utf8;
-    boundary = boundary;
-    knows = knows;
-    open_are = open-opened (leaf_of source targets v) bs new_bracket (number_after 0 segments) segments v.marks at r.open_are (record { place = there.0; front = there.1; start = start; end = boundary }) refl (ap length r.waiting) r.links_low
-        (none-laid v.lines source end boundary);
-    segments_are = segments-append 0 (runs_in v.runs) (pairs_in v.pairs) segments one_bracket r.segments_are
-        (known-made (runs_in v.runs) (pairs_in v.pairs) (number_after 0 segments) (Known (Text (bracket_text image) ∷ []) ∷ []) (Opener image (drop end source)) ((tt, tt), tt) refl (opener-stands image (drop end source)), tt);
-    runs_are = runs-append segments one_bracket r.runs_are tt;
-    waiting = r.waiting ∙ sym (append-nil (numbers_in segments)) ∙ sym (numbers-append segments one_bracket);
-    chained = r.chained;
-    links_low = omega (arith, r.links_low, length-append v.marks (mark_at at end kinds.Plain ∷ []));
-    few_runs = omega (arith, r.few_runs, further);
-    few_links = omega (arith, r.few_links, further);
-    high = subst (λ n. n ≤ length v.runs) (sym (behind-append 0 segments one_bracket)) r.high;
-    starts = omega (arith, r.starts, bracket-starts);
-  }
+  unfolding events_of
+  bracket-read =
+      made-read source targets v bs segments at end (Known (Text (bracket_text image) ∷ []) ∷ []) (Opener image (drop end source)) ends further boundary knows ((tt, tt), tt) refl (opener-stands image (drop end source)) refl r
+      (new_bracket ∷ bs) (mark_at at end kinds.Plain ∷ [])
+      (open-opened (leaf_of source targets v) bs new_bracket (number_after 0 segments) segments v.marks at r.open_are (record { place = there.0; front = there.1; start = start; end = boundary }) refl (ap length r.waiting) r.links_low
+      (none-laid v.lines source end boundary))
 
 -- What an atom puts is read.
 abbrev pub put_view : View → List ℕ → (at end : ℕ) → Atom → MissingEnds → View
@@ -594,7 +485,7 @@ module _ (source : List ℕ) (targets : Targets) (v : View) (bs : List Bracket) 
 
   pub put-read : (rules : Rules) (atom : Atom) → IsAtom rules source at (item_in source at end atom) end → IsThere source at end atom → PutRead source targets at end v bs segments atom ends
   unfolding items_in
-  put-read rules atoms.Text is there = simply atoms.Text [] (texts (slice_range source at end)) refl refl refl refl (text-more source targets v at end r.boundary (record { further = further; boundary = boundary; stays = there }))
+  put-read rules atoms.Text is there = simply atoms.Text [] (texts (slice_range source at end)) refl refl refl refl (text-more source targets v at end r.boundary further boundary there)
   put-read rules atoms.Escaped is there =
       simply atoms.Escaped (mark_at at end kinds.Escaped ∷ []) (Known (Text (slice_range source at end) ∷ []) ∷ []) refl refl refl refl (escaped-more source targets v at end r.boundary further boundary there)
   put-read rules atoms.Escape is there =

@@ -13,15 +13,11 @@ use Rattle.cm_html.specs.Html.{Rendered, inline_step, join_plain, inlines_html, 
 use Rattle.cm_scan.specs.inlines.Delimiters.{Run}
 use Rattle.cm_scan.specs.inlines.Pairing.{Item, emphasised, Characters, Finished, Linked, Delimiters, Opener, bracket_text, text_before, settled_after, settled}
 use Rattle.cm_inline.specs.steps.Depths.{items_depth}
-use Rattle.cm_inline.proofs.lemmas.InlineDepthLemmas.{text-first}
+use Rattle.cm_inline.proofs.lemmas.InlineDepthLemmas.{text-first, both, settled-after-depth}
 use Rattle.cm_inline.specs.steps.pairing.Events.{Event, Text, Rest, Whole, Tag, Emphasis, StrongEmphasis, Strikethrough, LinkTag, Start, End, made_of, tag_of}
 use Rattle.cm_inline.proofs.lemmas.EventLemmas.{means-append, means-none, means-rest, means-empty, means-wrap, tag-makes}
 use Rattle.cm_inline.specs.steps.pairing.Readings.{start_html, end_html, Tags, Alternative, is_number, mode_of, Page, page, write, write_all, item_html, item_plain, AreFree, IsAlone, Writes, deepest, Nests, starts_in, IsNear, StandFor}
-
-write-append : (p : Page) (fs gs : List Event) → write_all p (fs ++ gs) ≡ write_all (write_all p fs) gs
-unfolding write_all
-write-append p [] gs = refl
-write-append p (f ∷ fs) gs = write-append (write p.html p.mode f) fs gs
+use Rattle.cm_inline.proofs.lemmas.WriteLemmas.{write-append}
 
 free-split : (n : ℕ) (fs gs : List Event) → AreFree n (fs ++ gs) → AreFree n fs × AreFree n gs
 free-split n [] gs h = (tt, h)
@@ -85,18 +81,6 @@ pub writes-inlines : (fs : List Event) (items : List Item) → Writes fs items �
 writes-inlines fs items w = w.tags [] ∙ ap (λ t. page t Tags) (sym (settled-html items))
 
 -- a start and an end
-emph-html : (content : List Inline) → (rendered (inlines.Emph content)).html ≡ start_html Emphasis ++ inlines_html content ++ end_html Emphasis
-emph-html content = simp (fold_out-Inline Rendered inline_step, outs-Emph)
-
-strong-html : (content : List Inline) → (rendered (inlines.Strong content)).html ≡ start_html StrongEmphasis ++ inlines_html content ++ end_html StrongEmphasis
-strong-html content = simp (fold_out-Inline Rendered inline_step, outs-Strong)
-
-strike-html : (content : List Inline) → (rendered (inlines.Strike content)).html ≡ start_html Strikethrough ++ inlines_html content ++ end_html Strikethrough
-strike-html content = simp (fold_out-Inline Rendered inline_step, outs-Strike)
-
-link-html : (number : ℕ) (dest title : List ℕ) (content : List Inline) → (rendered (inlines.Link dest title content)).html ≡ start_html (LinkTag number false dest title) ++ inlines_html content ++ end_html (LinkTag number false dest title)
-link-html number dest title content = simp (fold_out-Inline Rendered inline_step, outs-Link)
-
 image-is : (dest title : List ℕ) (content : List Inline) → (rendered (inlines.Image dest title content)).html ≡ image_html dest title (plain_of content)
 image-is dest title content = simp (fold_out-Inline Rendered inline_step, outs-Image)
 
@@ -132,10 +116,10 @@ writes-wrap fs inside tag w alone = record { tags = tags tag alone; alternative 
         ∙ ap (λ t. page t Tags) (plain (start_html s) (end_html s) html s h)
 
     tags : (s : Tag) → IsAlone s fs → (html : List ℕ) → write_all (page html Tags) (Start s ∷ fs ++ End s ∷ []) ≡ page (html ++ ((rendered (made_of s content)).html ++ [])) Tags
-    tags Emphasis a html = whole Emphasis html refl (emph-html content)
-    tags StrongEmphasis a html = whole StrongEmphasis html refl (strong-html content)
-    tags Strikethrough a html = whole Strikethrough html refl (strike-html content)
-    tags (LinkTag n false dest title) a html = whole (LinkTag n false dest title) html refl (link-html n dest title content)
+    tags Emphasis a html = whole Emphasis html refl (simp (fold_out-Inline Rendered inline_step, outs-Emph))
+    tags StrongEmphasis a html = whole StrongEmphasis html refl (simp (fold_out-Inline Rendered inline_step, outs-Strong))
+    tags Strikethrough a html = whole Strikethrough html refl (simp (fold_out-Inline Rendered inline_step, outs-Strike))
+    tags (LinkTag n false dest title) a html = whole (LinkTag n false dest title) html refl (simp (fold_out-Inline Rendered inline_step, outs-Link))
     tags (LinkTag n true dest title) a html =
         let s = LinkTag n true dest title in
         write-append (page (html ++ start_html s) (Alternative n)) fs (End s ∷ []) ∙ ap (λ p. write_all p (End s ∷ [])) (w.alternative (html ++ start_html s) n a)
@@ -151,23 +135,10 @@ writes-wrap fs inside tag w alone = record { tags = tags tag alone; alternative 
 
 -- and how deep
 
-greatest-append : (xs ys : List Item) → items_depth (xs ++ ys) ≡ max (items_depth xs) (items_depth ys)
-greatest-append [] ys = omega arith
-greatest-append (x ∷ xs) ys = omega (arith, greatest-append xs ys)
-
 pub nests-append : (fs gs : List Event) (xs ys : List Item) → Nests fs xs → Nests gs ys → Nests (fs ++ gs) (xs ++ ys)
 nests-append fs gs xs ys f g depth most more h =
     ap (deepest depth most) (append_assoc fs gs more) ∙ f depth most (gs ++ more) h ∙ g depth (max most (depth + items_depth xs)) more (omega (arith, h))
-    ∙ ap (λ n. deepest depth n more) (omega (arith, greatest-append xs ys))
-
-settled-after-depth : (text : List ℕ) (items : List Item) → inlines_depth (settled_after text items) ≡ items_depth items
-unfolding settled_after
-settled-after-depth text [] = text-first text []
-settled-after-depth text (Characters t ∷ items) = omega (arith, settled-after-depth (text ++ t) items)
-settled-after-depth text (Delimiters r ∷ items) = omega (arith, settled-after-depth (text ++ replicate r.left r.character) items)
-settled-after-depth text (Opener b s ∷ items) = omega (arith, settled-after-depth (text ++ bracket_text b) items)
-settled-after-depth text (Finished i ∷ items) = omega (arith, text-first text (i ∷ settled_after [] items), settled-after-depth [] items)
-settled-after-depth text (Linked i ∷ items) = omega (arith, text-first text (i ∷ settled_after [] items), settled-after-depth [] items)
+    ∙ ap (λ n. deepest depth n more) (omega (arith, both xs ys))
 
 made-depth : (tag : Tag) (content : List Inline) → depth_of (made_of tag content) ≡ inlines_depth content + 1
 made-depth Emphasis content = simp (fold_out-Inline ℕ depth_step, outs-Emph)
@@ -192,14 +163,11 @@ nests-all fs items n = ap (deepest 0 0) (sym (append-nil fs)) ∙ n 0 0 [] (omeg
 
 pub starts-append : (fs gs : List Event) → starts_in (fs ++ gs) ≡ starts_in fs + starts_in gs
 starts-append [] gs = omega arith
-starts-append (Text t ∷ fs) gs = starts-append fs gs
-starts-append (Rest n r ∷ fs) gs = starts-append fs gs
-starts-append (Whole i ∷ fs) gs = starts-append fs gs
 starts-append (Start s ∷ fs) gs = omega (arith, starts-append fs gs)
-starts-append (End s ∷ fs) gs = starts-append fs gs
+starts-append (_ ∷ fs) gs = starts-append fs gs
 
 pub near-append : (fs gs : List Event) (xs ys : List Item) → IsNear fs xs → IsNear gs ys → IsNear (fs ++ gs) (xs ++ ys)
-near-append fs gs xs ys f g = record { bound = omega (arith, f.bound, g.bound, starts-append fs gs, greatest-append xs ys) }
+near-append fs gs xs ys f g = record { bound = omega (arith, f.bound, g.bound, starts-append fs gs, both xs ys) }
 
 pub near-wrap : (fs : List Event) (inside : List Item) (tag : Tag) → IsNear fs inside → IsNear (Start tag ∷ fs ++ End tag ∷ []) (Finished (made_of tag (settled inside)) ∷ [])
 near-wrap fs inside tag n = record { bound = omega (arith, n.bound, starts-append fs (End tag ∷ []), made-depth tag (settled inside), settled-after-depth [] inside) }

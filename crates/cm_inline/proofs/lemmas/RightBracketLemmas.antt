@@ -215,14 +215,10 @@ text-closes rules source targets at old new others b stands had has view looks l
     let is : items_in more ≡ left_as_text outer inner b.image =
     text-items source so_far at (at + 1) ∙ ap (λ t. t ++ Characters text ∷ []) (left-items source targets at v b bs g.segments r) ∙ ap (λ t. (outer ++ Characters (bracket_text b.image) ∷ inner) ++ Characters t ∷ []) (bracket-slice source at stands)
     ∙ append_assoc outer (Characters (bracket_text b.image) ∷ inner) (Characters (93 ∷ []) ∷ []) in
-    let link : holds_link inner ≡ nat_lt b.mark links_end = sym (or-none (holds_link inner)) ∙ sym level.link ∙ ap (nat_lt b.mark) (sym same) in
+    let link : holds_link inner ≡ nat_lt b.mark links_end = sym (elim (holds_link inner) as (λ u. u || false ≡ u) [ true ↦ refl | false ↦ refl ]) ∙ sym level.link ∙ ap (nat_lt b.mark) (sym same) in
     goes-on rules source targets at (at + 1) old new stands (omega arith) g more read
     (ap (λ t. closed_at rules (defined_in targets) source t at) before ∙ closes-opener rules (defined_in targets) source outer inner b at links_end level.closed.none link order stands.within
     ∙ ap (closed_or outer inner b.image (drop (at + 1) source)) none ∙ ap (λ t. record { items = reverse t; rest = drop (at + 1) source }) (sym is))
     (subst (λ t. Keeps old.runs.openers.looks t new.runs.openers.looks (items_in more)) (sym before) (subst (λ t. Keeps old.runs.openers.looks (outer ++ Opener b.image (drop b.end source) ∷ inner) new.runs.openers.looks t) (sym is)
     (subst (λ n. Keeps old.runs.openers.looks (outer ++ Opener b.image (drop b.end source) ∷ inner) n (left_as_text outer inner b.image)) (sym looks)
     (keeps-text old.runs.openers.looks outer inner b.image (drop b.end source) (bracket_text b.image) (93 ∷ [])))))
-  where
-    or-none : (u : Bool) → u || false ≡ u
-    or-none true = refl
-    or-none false = refl

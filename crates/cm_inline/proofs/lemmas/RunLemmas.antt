@@ -10,9 +10,9 @@ use Rattle.cm_inline.specs.steps.pairing.Readings.{Tags, page, write_all}
 use Rattle.cm_inline.specs.steps.Runs.{byte_of, run_of, paired_run, runs_in, pairs_in}
 use Rattle.cm_inline.specs.steps.Writing.{Adds}
 use Rattle.cm_inline.proofs.lemmas.HtmlLemmas.{run-html}
-use Rattle.cm_inline.proofs.lemmas.LaidLemmas.{get_or-map}
 use Rattle.cm_inline.proofs.lemmas.TagLemmas.{length-pairs}
 use Rattle.cm_inline.proofs.lemmas.WriteLemmas.{write-append}
+use Rattle.std.proofs.lemmas.List.{get_or-map}
 
 -- the pairs that a run knows of are there
 pub record RunKnown (pairs : List made.Pair) (r : held.Run) : Type 0 where

@@ -65,9 +65,9 @@ beneath-all : (c : Run) (bottom : ℕ) (es : List Entry) → Below bottom es →
 beneath-all c bottom [] b h = tt
 beneath-all c bottom (e ∷ es) b h = (h.0 b.0, beneath-all c bottom es b.1 h.1)
 
-below_more : (n m : ℕ) (es : List Entry) → n ≤ m → Below n es → Below m es
-below_more n m [] p h = tt
-below_more n m (e ∷ es) p h = let q : e.place < n = h.0 in (omega arith, below_more n m es p h.1)
+pub below-more : (n m : ℕ) (es : List Entry) → n ≤ m → Below n es → Below m es
+below-more n m [] p h = tt
+below-more n m (e ∷ es) p h = let q : e.place < n = h.0 in (omega arith, below-more n m es p h.1)
 
 abbrev one_if : Bool → ℕ
 one_if b = cond b 1 0
@@ -106,7 +106,7 @@ find-none c bottom (x ∷ es) f n h = go (nat_lt x.place bottom) refl (answers c
     go : (b : Bool) → nat_lt x.place bottom ≡ b → (a : Bool) → answers c x ≡ a → (find_opener c bottom es ≡ None → NoneAnswers c es) → NoneAnswers c (x ∷ es)
     go true p a q ih =
         let low : x.place < bottom = ltb-true x.place bottom p in
-        beneath-all c bottom (x ∷ es) (low, below_more x.place bottom es (omega (arith, low)) f.0) n
+        beneath-all c bottom (x ∷ es) (low, below-more x.place bottom es (omega (arith, low)) f.0) n
     go false p true q ih = absurd (none-some x (sym h ∙ cond-false (nat_lt x.place bottom) None rest p ∙ cond-true (answers c x) (Some x) (find_opener c bottom es) q))
     go false p false q ih = (q, ih (sym (cond-false (nat_lt x.place bottom) None rest p ∙ cond-false (answers c x) (Some x) (find_opener c bottom es) q) ∙ h))
 

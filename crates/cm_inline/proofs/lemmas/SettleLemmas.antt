@@ -19,8 +19,9 @@ use Rattle.cm_inline.specs.steps.Marks.{link_tag, no_link, texts, part_of_kind, 
 use Rattle.cm_inline.specs.steps.Runs.{runs_in, pairs_in}
 use Rattle.cm_inline.specs.steps.Standalone.{autolink}
 use Rattle.cm_inline.specs.steps.Writing.{no_mark, mark_numbered, mark_events, events_from, IsMarkIn}
-use Rattle.cm_inline.proofs.lemmas.BuildLemmas.{build-append, texts-built}
+use Rattle.cm_inline.proofs.lemmas.BuildLemmas.{texts-built}
 use Rattle.cm_inline.proofs.lemmas.LaidLemmas.{events-next, events-last}
+use Rattle.cm_inline.proofs.lemmas.EventLemmas.{build-append}
 
 -- one mark
 

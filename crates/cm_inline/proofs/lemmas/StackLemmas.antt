@@ -31,11 +31,8 @@ no-append c (x ∷ xs) ys p q = (p.0, no-append c xs ys p.1 q)
 none-no : (c : Run) (xs : List Item) → NoneOpens xs → NoOpener c xs
 unfolding NoneOpens NoOpener
 none-no c [] p = tt
-none-no c (Characters t ∷ xs) p = (refl, none-no c xs p.1)
-none-no c (Finished i ∷ xs) p = (refl, none-no c xs p.1)
-none-no c (Linked i ∷ xs) p = (refl, none-no c xs p.1)
-none-no c (Opener b s ∷ xs) p = (refl, none-no c xs p.1)
 none-no c (Delimiters r ∷ xs) p = (ap (λ b. b && delimiters_match c r) p.0, none-no c xs p.1)
+none-no c (_ ∷ xs) p = (refl, none-no c xs p.1)
 
 -- what doesn't open goes behind the last entry
 pub stacked-more : (es : List Entry) (fs gs : List Event) (items more : List Item) → Stacked es fs items → StandFor gs (reverse more) → NoneOpens more → Stacked es (fs ++ gs) (more ++ items)
@@ -119,19 +116,13 @@ abbrev pub pair_items : Run → Run → (low inside : List Item) → List Item
 pair_items c o low inside = Finished (emphasised c.character (used o c) (settled (reverse inside))) ∷ (without (used o c) o ++ low)
 
 without-reversed : (n : ℕ) (r : Run) → reverse (without n r) ≡ without n r
-without-reversed n r = go (nat_le r.left n)
-  where
-    go : (b : Bool) → reverse (cond b [] (Delimiters (taken n r) ∷ [])) ≡ cond b [] (Delimiters (taken n r) ∷ [])
-    go true = refl
-    go false = refl
+without-reversed n r = elim (nat_le r.left n) as (λ b. reverse (cond b [] (Delimiters (taken n r) ∷ [])) ≡ cond b [] (Delimiters (taken n r) ∷ [])) [ true ↦ refl | false ↦ refl ]
 
 pub pair-items : (c o : Run) (low inside : List Item) → reverse (up_to_pair (opened_at o low (reverse inside)) c) ≡ pair_items c o low inside
 pair-items c o low inside =
+    let made = Finished (emphasised c.character (used o c) (settled (reverse inside))) in
     reverse-append (reverse low ++ without (used o c) o) (made ∷ [])
     ∙ ap (λ t. made ∷ t) (reverse-append (reverse low) (without (used o c) o) ∙ ap (λ t. t ++ reverse (reverse low)) (without-reversed (used o c) o) ∙ ap (λ t. without (used o c) o ++ t) (reverse-reverse low))
-  where
-    made : Item
-    made = Finished (emphasised c.character (used o c) (settled (reverse inside)))
 
 pub pair-stacked : (c : Run) (e : Entry) (below : List Entry) (fs : List Event) (items : List Item) (f : Found c e below fs items) →
     Stacked (rest_of (used e.run c) e ++ below) (pair_events c e below fs items f) (pair_items c e.run f.low f.inside)

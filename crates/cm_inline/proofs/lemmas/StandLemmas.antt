@@ -19,6 +19,7 @@ use Rattle.cm_inline.specs.steps.pairing.Paired.{AreRuns}
 use Rattle.cm_inline.specs.steps.pairing.Passes.{number_after}
 use Rattle.cm_inline.specs.steps.pairing.Segments.{Segment, Waiting, Made, is_run, all_parts, IsMade, AreSegments}
 use Rattle.cm_inline.specs.steps.Marks.{text_event, texts, stays_text}
+use Rattle.std.proofs.lemmas.List.{get_or_append_left}
 
 -- texts side by side
 abbrev pub text_events : List (List ℕ) → List Event
@@ -125,10 +126,7 @@ known-under n (Known fs ∷ ms) h = known-under n ms h.1
 none-rising : (low : ℕ) (fs gs : List Event) → HaveNoRun fs → Rising low gs → Rising low (fs ++ gs)
 none-rising low [] gs h r = r
 none-rising low (Rest number run ∷ fs) gs h r = absurd h.0
-none-rising low (Text t ∷ fs) gs h r = none-rising low fs gs h.1 r
-none-rising low (Whole i ∷ fs) gs h r = none-rising low fs gs h.1 r
-none-rising low (Start tag ∷ fs) gs h r = none-rising low fs gs h.1 r
-none-rising low (End tag ∷ fs) gs h r = none-rising low fs gs h.1 r
+none-rising low (_ ∷ fs) gs h r = none-rising low fs gs h.1 r
 
 known-rising : (low : ℕ) (runs : List PairedRun) (pairs : List Pair) (ms : List Part) → AreKnown ms → Rising low (events_of runs pairs ms)
 unfolding events_of
@@ -150,11 +148,7 @@ known-made runs pairs low ms item known other means = record {
 -- text
 pub texts-known : (text : List ℕ) → AreKnown (texts text)
 texts-known [] = tt
-texts-known (b ∷ bs) = ((one (b == 10), tt), texts-known bs)
-  where
-    one : (feed : Bool) → IsNoRun (if feed then Whole inline.Soft else Text (b ∷ []))
-    one true = tt
-    one false = tt
+texts-known (b ∷ bs) = (((elim (b == 10) as (λ feed. IsNoRun (if feed then Whole inline.Soft else Text (b ∷ []))) [ true ↦ tt | false ↦ tt ]), tt), texts-known bs)
 
 pub texts-events : (runs : List PairedRun) (pairs : List Pair) (text : List ℕ) → events_of runs pairs (texts text) ≡ map text_event text
 unfolding events_of
@@ -192,29 +186,24 @@ runs-split [] ys h = (tt, h)
 runs-split (Waiting number run ∷ xs) ys h = let rest = runs-split xs ys h.2 in ((h.0, h.1, rest.0), rest.1)
 runs-split (Made parts item high ∷ xs) ys h = runs-split xs ys h
 
-get-front : (xs ys : List PairedRun) (n : ℕ) → n < length xs → get_or (xs ++ ys) n no_run ≡ get_or xs n no_run
-get-front [] ys n h = absurd (omega (arith, h))
-get-front (x ∷ xs) ys zero h = refl
-get-front (x ∷ xs) ys (suc n) h = get-front xs ys n (omega (arith, h))
-
 pub events-more : (runs more : List PairedRun) (pairs : List Pair) (ms : List Part) → AreParts runs pairs ms → events_of (runs ++ more) pairs ms ≡ events_of runs pairs ms
 unfolding events_of
 events-more runs more pairs [] h = refl
 events-more runs more pairs (Numbered number ∷ ms) h =
-    ap (λ r. run_events pairs number r ++ events_of (runs ++ more) pairs ms) (get-front runs more number h.0) ∙ ap (λ t. run_events pairs number (get_or runs number no_run) ++ t) (events-more runs more pairs ms h.3)
+    ap (λ r. run_events pairs number r ++ events_of (runs ++ more) pairs ms) (get_or_append_left runs more no_run number h.0) ∙ ap (λ t. run_events pairs number (get_or runs number no_run) ++ t) (events-more runs more pairs ms h.3)
 events-more runs more pairs (Known fs ∷ ms) h = ap (λ t. fs ++ t) (events-more runs more pairs ms h.1)
 
 parts-more : (runs more : List PairedRun) (pairs : List Pair) (ms : List Part) → AreParts runs pairs ms → AreParts (runs ++ more) pairs ms
 parts-more runs more pairs [] h = tt
 parts-more runs more pairs (Numbered number ∷ ms) h =
-    let same = get-front runs more number h.0 in
+    let same = get_or_append_left runs more no_run number h.0 in
     (omega (arith, h.0, length-append runs more), omega (arith, h.1, ap (λ (r : PairedRun). r.opened) same), omega (arith, h.2, ap (λ (r : PairedRun). r.to) same), parts-more runs more pairs ms h.3)
 parts-more runs more pairs (Known fs ∷ ms) h = (h.0, parts-more runs more pairs ms h.1)
 
 pub segments-more : (runs more : List PairedRun) (pairs : List Pair) (low : ℕ) (ss : List Segment) → AreSegments runs pairs low ss → AreSegments (runs ++ more) pairs low ss
 segments-more runs more pairs low [] h = tt
 segments-more runs more pairs low (Waiting number run ∷ ss) h =
-    (h.0, omega (arith, h.1, length-append runs more), get-front runs more number h.1 ∙ h.2, segments-more runs more pairs (number + 1) ss h.3)
+    (h.0, omega (arith, h.1, length-append runs more), get_or_append_left runs more no_run number h.1 ∙ h.2, segments-more runs more pairs (number + 1) ss h.3)
 segments-more runs more pairs low (Made parts item high ∷ ss) h =
     let m = h.0 in
     let same = events-more runs more pairs parts m.marked in (

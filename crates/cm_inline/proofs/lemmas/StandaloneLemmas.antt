@@ -153,7 +153,16 @@ link-further rules source at end link within high e left =
 
 pub link-placed : (rules : Rules) (source : List ℕ) (at end : ℕ) (link : Autolink) → IsUtf8 source → at < length source → end ≤ length source → Some link ≡ followed_autolink rules (drop at source) → link.rest ≡ drop end source
     → (slice_range source (at + 1) (end - 1) ≡ link.text) × IsBetween source (at + 1) (end - 1)
-link-placed rules source at end link utf8 within high e left = (is, (omega (arith, place), IsCharBoundary-after_ascii source at utf8 within (omega (arith, low)), last))
+link-placed rules source at end link utf8 within high e left =
+    let behind-it = ap (drop 1) (sym first ∙ whole) in
+    let place = link-further rules source at end link within high e left in
+    let size : end - 1 - (at + 1) ≡ length link.text = omega (arith, place) in
+    let is = ap (λ n. take n (drop (at + 1) source)) size ∙ ap (take (length link.text)) behind-it ∙ take-append_seam link.text (62 ∷ link.rest) in
+    let tick : begins_with 62 (drop (end - 1) source) ≡ true =
+        let same : end - 1 ≡ at + 1 + length link.text = omega (arith, place) in
+        ap (λ n. begins_with 62 (drop n source)) same ∙ ap (begins_with 62) (sym (drop-drop (length link.text) (at + 1) source) ∙ ap (drop (length link.text)) behind-it ∙ drop-append_seam link.text (62 ∷ link.rest)) in
+    let last : IsCharBoundary source (end - 1) = let found = begins-at 62 source (end - 1) tick in IsCharBoundary-before_ascii source (end - 1) found.0 (omega (arith, found.2)) in
+    (is, (omega (arith, place), IsCharBoundary-after_ascii source at utf8 within (omega (arith, low)), last))
   where
     whole : drop at source ≡ 60 ∷ (link.text ++ 62 ∷ link.rest)
     whole = linked (drop at source) link (is-linked rules (drop at source) link e)
@@ -167,26 +176,6 @@ link-placed rules source at end link utf8 within high e left = (is, (omega (arit
         head : List ℕ → ℕ
         head [] = 0
         head (b ∷ bs) = b
-
-    behind-it : drop (at + 1) source ≡ link.text ++ 62 ∷ link.rest
-    behind-it = ap (drop 1) (sym first ∙ whole)
-
-    place : end ≡ at + 1 + length link.text + 1
-    place = link-further rules source at end link within high e left
-
-    size : end - 1 - (at + 1) ≡ length link.text
-    size = omega (arith, place)
-
-    is : slice_range source (at + 1) (end - 1) ≡ link.text
-    is = ap (λ n. take n (drop (at + 1) source)) size ∙ ap (take (length link.text)) behind-it ∙ take-append_seam link.text (62 ∷ link.rest)
-
-    tick : begins_with 62 (drop (end - 1) source) ≡ true
-    tick =
-        let same : end - 1 ≡ at + 1 + length link.text = omega (arith, place) in
-        ap (λ n. begins_with 62 (drop n source)) same ∙ ap (begins_with 62) (sym (drop-drop (length link.text) (at + 1) source) ∙ ap (drop (length link.text)) behind-it ∙ drop-append_seam link.text (62 ∷ link.rest))
-
-    last : IsCharBoundary source (end - 1)
-    last = let found = begins-at 62 source (end - 1) tick in IsCharBoundary-before_ascii source (end - 1) found.0 (omega (arith, found.2))
 
 -- the whole of what was read
 pub whole-placed : (source : List ℕ) (at end : ℕ) → at ≤ end → end ≤ length source → before (drop end source) (drop at source) ≡ slice_range source at end

@@ -21,7 +21,7 @@ use Rattle.cm_inline.specs.steps.Searching.{kind, find_opener, looks_for}
 use Rattle.cm_inline.proofs.lemmas.BottomLemmas.{kind-small}
 use Rattle.cm_inline.proofs.lemmas.NumberLemmas.{nat-split as nat_split}
 use Rattle.cm_inline.proofs.lemmas.ReserveLemmas.{reserve-push}
-use Rattle.cm_inline.proofs.lemmas.SearchLemmas.{FoundBy, find-found}
+use Rattle.cm_inline.proofs.lemmas.SearchLemmas.{FoundBy, find-found, below-more}
 use Rattle.cm_inline.proofs.lemmas.WaitLemmas.{with_looks, after_pair, ready-fails, paid-fails, ready-pairs, paid-pairs}
 
 -- what the code leaves of an entry
@@ -152,11 +152,7 @@ from-behind low [] ys h = h
 from-behind low (x ∷ xs) ys h = from-behind low xs ys h.1
 
 from-rest : (low n : ℕ) (e : Entry) (es : List Entry) → EntriesFrom low (e ∷ es) → EntriesFrom low (rest_of n e ++ es)
-from-rest low n e es h = go (nat_le e.run.left n)
-  where
-    go : (b : Bool) → EntriesFrom low (cond b [] (record e { run = taken n e.run } ∷ []) ++ es)
-    go true = h.1
-    go false = h
+from-rest low n e es h = elim (nat_le e.run.left n) as (λ b. EntriesFrom low (cond b [] (record e { run = taken n e.run } ∷ []) ++ es)) [ true ↦ h.1 | false ↦ h ]
 
 pub from-zero : (es : List Entry) → EntriesFrom 0 es
 from-zero [] = tt
@@ -206,20 +202,17 @@ steps-none old had number ready = record {
 pub steps-fails : (old new : Runs) (had bs : List ℕ) (number : ℕ) (c : Run) (openers : Stack) → RunSteps old new had bs number number 0 → find_opener c (get_or bs (kind c) 0) new.openers.entries ≡ None
     → openers.entries ≡ new.openers.entries → openers.looks ≡ new.openers.looks + looks_for c (get_or bs (kind c) 0) new.openers.entries
     → RunSteps old (record new { openers = openers }) had (set bs (kind c) number) number number 0
-steps-fails old new had bs number c openers s none e k = record {
-  ready = subst (λ l. IsReady l (set bs (kind c) number)) (sym is) (ready-fails c l bs (looks_for c (get_or bs (kind c) 0) l.entries) s.ready);
-  paid = omega (arith, s.paid, paid-fails c l bs s.ready none all_kinds (kind-small c), ap (λ l. spent all_kinds l (set bs (kind c) number)) is);
-  grows = λ low h f. (let g = s.grows low h f in (subst (EntriesFrom low) (sym e) g.0, grows-rest low (number + 1) _ _ _ g.1 refl refl));
-  same = s.same;
-  chained = s.chained;
-  waiting = s.waiting;
-}
-  where
-    l : Listed
-    l = (state_of new bs number).list
-
-    is : (state_of (record new { openers = openers }) (set bs (kind c) number) number).list ≡ with_looks l (looks_for c (get_or bs (kind c) 0) l.entries)
-    is = same-list _ _ e k refl
+steps-fails old new had bs number c openers s none e k =
+    let l : Listed = (state_of new bs number).list in
+    let is = same-list _ _ e k refl in
+    record {
+      ready = subst (λ l. IsReady l (set bs (kind c) number)) (sym is) (ready-fails c l bs (looks_for c (get_or bs (kind c) 0) l.entries) s.ready);
+      paid = omega (arith, s.paid, paid-fails c l bs s.ready none all_kinds (kind-small c), ap (λ l. spent all_kinds l (set bs (kind c) number)) is);
+      grows = λ low h f. (let g = s.grows low h f in (subst (EntriesFrom low) (sym e) g.0, grows-rest low (number + 1) _ _ _ g.1 refl refl));
+      same = s.same;
+      chained = s.chained;
+      waiting = s.waiting;
+    }
 
 -- What the code writes for the pair of a closer with the entry that was found.
 pub record MakesPair (c : Run) (e : Entry) (below : List Entry) (looks : ℕ) (tag : Tag) (old new : Runs) : Type 0 where
@@ -281,34 +274,25 @@ steps-pairs old new now had bs number c e tag s g m = record {
 -- the closer's own run is written
 pub steps-put : (old new now : Runs) (had bs : List ℕ) (number : ℕ) (x : HeldRun) → RunSteps old new had bs number number 0 → number < length new.runs.items → now.runs.items ≡ set new.runs.items number x → now.pairs ≡ new.pairs → now.openers ≡ new.openers → now.waiting ≡ new.waiting
     → x.run.marker ≡ (run_at new.runs.items number).run.marker → x.run.whole ≡ (run_at new.runs.items number).run.whole → x.opened ≤ length new.pairs.items → x.from ≤ x.to → x.to ≤ length new.pairs.items → RunSteps old now had bs number number 0
-steps-put old new now had bs number x s within r p o w mk wh op order to = record {
-  ready = subst (λ l. IsReady l bs) (sym is) s.ready;
-  paid = omega (arith, s.paid, ap (λ l. spent all_kinds l bs) is);
-  grows = λ low h f. (
-      let g = s.grows low h f in (
-        subst (λ (k : Stack). EntriesFrom low k.entries) (sym o) g.0,
-        grows-write low (number + 1) number (paired_run x) [] (state_of old had number) (state_of new bs number) (state_of now bs number) h (omega arith) g.1 runs (pairs ∙ sym (append-nil (pairs_in new.pairs.items))),
-      )
-      );
-  same = same-write old.runs.items new.runs.items now.runs.items number x within s.same r mk wh;
-  chained = λ c0. subst (AreChained (runs_in now.runs.items)) (sym pairs)
-      (chained-put (runs_in new.runs.items) (runs_in now.runs.items) (pairs_in new.pairs.items) number (paired_run x) (omega (arith, within, length-map new.runs.items paired_run)) (s.chained c0) runs (omega (arith, op, length-map new.pairs.items pair_in)) order
-      (omega (arith, to, length-map new.pairs.items pair_in)));
-  waiting = ap (λ v. v.items) w ∙ s.waiting;
-}
-  where
-    runs : runs_in now.runs.items ≡ set (runs_in new.runs.items) number (paired_run x)
-    runs = ap runs_in r ∙ map-set paired_run new.runs.items number x
-
-    pairs : pairs_in now.pairs.items ≡ pairs_in new.pairs.items
-    pairs = ap (λ v. pairs_in v.items) p
-
-    is : (state_of now bs number).list ≡ (state_of new bs number).list
-    is = same-list _ _ (ap (λ (k : Stack). k.entries) o) (ap (λ (k : Stack). k.looks) o) refl
-
-below-more : (n m : ℕ) (es : List Entry) → n ≤ m → Below n es → Below m es
-below-more n m [] p h = tt
-below-more n m (e ∷ es) p h = let q : e.place < n = h.0 in (omega arith, below-more n m es p h.1)
+steps-put old new now had bs number x s within r p o w mk wh op order to =
+    let runs = ap runs_in r ∙ map-set paired_run new.runs.items number x in
+    let pairs = ap (λ v. pairs_in v.items) p in
+    let is = same-list _ _ (ap (λ (k : Stack). k.entries) o) (ap (λ (k : Stack). k.looks) o) refl in
+    record {
+      ready = subst (λ l. IsReady l bs) (sym is) s.ready;
+      paid = omega (arith, s.paid, ap (λ l. spent all_kinds l bs) is);
+      grows = λ low h f. (
+          let g = s.grows low h f in (
+            subst (λ (k : Stack). EntriesFrom low k.entries) (sym o) g.0,
+            grows-write low (number + 1) number (paired_run x) [] (state_of old had number) (state_of new bs number) (state_of now bs number) h (omega arith) g.1 runs (pairs ∙ sym (append-nil (pairs_in new.pairs.items))),
+          )
+          );
+      same = same-write old.runs.items new.runs.items now.runs.items number x within s.same r mk wh;
+      chained = λ c0. subst (AreChained (runs_in now.runs.items)) (sym pairs)
+          (chained-put (runs_in new.runs.items) (runs_in now.runs.items) (pairs_in new.pairs.items) number (paired_run x) (omega (arith, within, length-map new.runs.items paired_run)) (s.chained c0) runs (omega (arith, op, length-map new.pairs.items pair_in)) order
+          (omega (arith, to, length-map new.pairs.items pair_in)));
+      waiting = ap (λ v. v.items) w ∙ s.waiting;
+    }
 
 pub ready-raised : (entries : List Entry) (looks n m : ℕ) (bs : List ℕ) → n ≤ m → IsReady (record { entries = entries; looks = looks; next = n }) bs → IsReady (record { entries = entries; looks = looks; next = m }) bs
 ready-raised entries looks n m bs h r = record { falling = r.falling; under = below-more n m entries h r.under; size = r.size; low = λ k. (let q : get_or bs k 0 ≤ n = r.low k in omega (arith, q, h)) }
@@ -326,19 +310,18 @@ steps-on old new had bs number due s = record {
 
 pub steps-push : (old new : Runs) (had bs : List ℕ) (number due : ℕ) (e : Entry) (openers : Stack) → RunSteps old new had bs number number 0 → openers.entries ≡ e ∷ new.openers.entries → openers.looks ≡ new.openers.looks → e.place ≡ number → all_kinds + 1 + e.run.left ≤ due
     → RunSteps old (record new { openers = openers }) had bs number (number + 1) due
-steps-push old new had bs number due e openers s es k at pays = record {
-  ready = subst (λ l. IsReady l bs) (sym is) (record {
-    falling = (subst (λ n. Below n new.openers.entries) (sym at) s.ready.under, s.ready.falling);
-    under = (omega (arith, at), below-more number (number + 1) new.openers.entries (omega arith) s.ready.under);
-    size = s.ready.size;
-    low = λ k. (let q : get_or bs k 0 ≤ number = s.ready.low k in omega (arith, q));
-  });
-  paid = omega (arith, s.paid, pays, ap (λ l. spent all_kinds l bs) is, sum_by-cons (λ (x : Entry). x.run.left) e new.openers.entries, reserve-push (take all_kinds bs) new.openers.entries e, length-take all_kinds bs);
-  grows = λ low h f. (let g = s.grows low h f in (subst (EntriesFrom low) (sym es) (omega (arith, at, h), g.0), grows-rest low (number + 1) _ _ _ g.1 refl refl));
-  same = s.same;
-  chained = s.chained;
-  waiting = s.waiting;
-}
-  where
-    is : (state_of (record new { openers = openers }) bs (number + 1)).list ≡ record { entries = e ∷ new.openers.entries; looks = new.openers.looks; next = number + 1 }
-    is = same-list _ _ es k refl
+steps-push old new had bs number due e openers s es k at pays =
+    let is = same-list _ _ es k refl in
+    record {
+      ready = subst (λ l. IsReady l bs) (sym is) (record {
+        falling = (subst (λ n. Below n new.openers.entries) (sym at) s.ready.under, s.ready.falling);
+        under = (omega (arith, at), below-more number (number + 1) new.openers.entries (omega arith) s.ready.under);
+        size = s.ready.size;
+        low = λ k. (let q : get_or bs k 0 ≤ number = s.ready.low k in omega (arith, q));
+      });
+      paid = omega (arith, s.paid, pays, ap (λ l. spent all_kinds l bs) is, sum_by-cons (λ (x : Entry). x.run.left) e new.openers.entries, reserve-push (take all_kinds bs) new.openers.entries e, length-take all_kinds bs);
+      grows = λ low h f. (let g = s.grows low h f in (subst (EntriesFrom low) (sym es) (omega (arith, at, h), g.0), grows-rest low (number + 1) _ _ _ g.1 refl refl));
+      same = s.same;
+      chained = s.chained;
+      waiting = s.waiting;
+    }

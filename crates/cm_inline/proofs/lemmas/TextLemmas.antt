@@ -156,13 +156,9 @@ text-to-spaces source at end within e some feed =
       stays = ap (list_all (stays_text true)) part ∙ front-all (stays_text true) left (replicate parts.count 32) (sym (ap (list_all (stays_text true)) parts.is) ∙ found.stays);
       spaces = ap (λ t. not ((begins_with 32 (drop (at + length left) source) || begins_with 10 (drop (at + length left) source)) && ends_with 32 t)) part
           ∙ ap (λ v. not ((begins_with 32 (drop (at + length left) source) || begins_with 10 (drop (at + length left) source)) && v)) parts.ended
-          ∙ none (begins_with 32 (drop (at + length left) source) || begins_with 10 (drop (at + length left) source));
+          ∙ (elim (begins_with 32 (drop (at + length left) source) || begins_with 10 (drop (at + length left) source)) as (λ next. not (next && false) ≡ true) [ true ↦ refl | false ↦ refl ]);
       ascii = λ _. first;
     }
-  where
-    none : (next : Bool) → not (next && false) ≡ true
-    none true = refl
-    none false = refl
 
 -- a source without markup is one text
 

@@ -4,7 +4,7 @@ use Rattle.std.specs.Prelude.{replicate, Result, Ok, Err, IfOk}
 use Rattle.std.specs.List.{slice_range, list_all}
 use Rattle.std.specs.Str.{IsCharBoundary}
 use Rattle.std.proofs.lemmas.Bool.{and_parts, eqb-true, cond-true}
-use Rattle.std.proofs.lemmas.List.{append-nil, drop_more, drop_all, get_or_read, get_or_default}
+use Rattle.std.proofs.lemmas.List.{append-nil, drop_more, drop_all, get_or_read, get_or_default, get_or-map}
 use Rattle.cm_tree.specs.Definitions.{Targets}
 use Rattle.cm_html.specs.Escape.{escape}
 use Rattle.cm_scan.specs.spans.CodeSpans.{one_line}
@@ -23,10 +23,11 @@ use Rattle.cm_inline.specs.steps.Marks.{texts, stays_text, tag_numbered, part_of
 use Rattle.cm_inline.specs.steps.Runs.{byte_of, run_of, paired_run, runs_in, pairs_in}
 use Rattle.cm_inline.specs.steps.Standalone.{IsBetween}
 use Rattle.cm_inline.specs.steps.Writing.{Adds, no_mark, mark_numbered, mark_events, events_from, events_after, events_at, is_unpaired, is_text, is_end_of, mode_after, IsMarkIn, GoesOn, TextWaits, IsImageAt, IsWrittenTo}
-use Rattle.cm_inline.proofs.lemmas.HtmlLemmas.{run-html, text-html, slice-both, slice-none}
-use Rattle.cm_inline.proofs.lemmas.LaidLemmas.{get_or-map, events-next, events-last, settled-mark, settled-behind}
+use Rattle.cm_inline.proofs.lemmas.HtmlLemmas.{run-html, text-html}
+use Rattle.cm_inline.proofs.lemmas.LaidLemmas.{events-next, events-last, settled-mark, settled-behind}
 use Rattle.cm_inline.proofs.lemmas.TagLemmas.{ends-last, starts-none}
 use Rattle.cm_inline.proofs.lemmas.WriteLemmas.{write-append, write-from, mode-same, texts-tags, texts-alternative}
+use Rattle.cm_inline.proofs.lemmas.SliceLemmas.{slice-both, slice-none}
 
 abbrev mode : Page → Mode
 mode p = p.mode
@@ -63,15 +64,7 @@ text-mark source targets reader mark html m is = go mark.kind m.kind is
     go (kinds.Run number) h e =
         ap (λ r. write_all (page html Tags) (run_events (pairs_in reader.runs.pairs.items) number r)) (get_or-map paired_run runs number no_run parts.no_run h.0) ∙ unpaired number (run_at runs number) h.1 e
     go kinds.Escaped h e = absurd (cc e)
-    go kinds.Nothing h e = absurd (cc e)
-    go (kinds.Character c) h e = absurd (cc e)
-    go (kinds.Code from to) h e = absurd (cc e)
-    go kinds.Html h e = absurd (cc e)
-    go (kinds.Autolink is_address) h e = absurd (cc e)
-    go kinds.Soft h e = absurd (cc e)
-    go kinds.Hard h e = absurd (cc e)
-    go (kinds.Start number) h e = absurd (cc e)
-    go (kinds.End number) h e = absurd (cc e)
+    go _ h e = absurd (cc e)
 
 -- where marks are laid, there is the boundary of a character
 laid-boundary : (source : List ℕ) (targets : Targets) (reader : Reader) (from : ℕ) (ms : List Mark) → AreLaid false source targets reader.runs.runs.items reader.links.items from (length source) ms → IsCharBoundary source from
@@ -91,7 +84,7 @@ waits-first source targets reader html settled =
       place = 0;
       between = (omega arith, low, low);
       laid = settled.laid;
-      same = ap (λ t. write_all (page t Tags) (events_in source targets reader)) (sym (ap (λ t. html ++ t) (slice-none source 0 0 refl) ∙ append-nil html));
+      same = ap (λ t. write_all (page t Tags) (events_in source targets reader)) (sym (ap (λ t. html ++ t) (slice-none source 0) ∙ append-nil html));
     }
 
 -- the text up to a mark, then the mark and what follows it
@@ -153,7 +146,7 @@ waits-on source targets reader old html before new next further h w e g =
       between = (omega arith, at, at);
       laid = g.laid;
       same = waits-mark source targets reader old html next h w ∙ ap (λ t. write_all (page t Tags) (events_at source targets reader next.mark)) (sym e) ∙ g.same
-          ∙ ap (λ t. write_all (page t Tags) (events_from source targets reader further.from (drop further.mark reader.marks.items))) (sym (ap (λ t. new ++ t) (slice-none source further.from further.from refl) ∙ append-nil new));
+          ∙ ap (λ t. write_all (page t Tags) (events_from source targets reader further.from (drop further.mark reader.marks.items))) (sym (ap (λ t. new ++ t) (slice-none source further.from) ∙ append-nil new));
     }
 
 -- the text after the last mark
@@ -275,17 +268,7 @@ end-mark source targets reader link html mark is = go mark.kind is
 
     go : (kind : Kind) → is_end_of link kind ≡ true → write_all (page html (Alternative link)) (events kind) ≡ write_all (page html Tags) (events kind)
     go (kinds.End number) e = cond-true (number == link) (page (html ++ end_html (tag_numbered source targets reader.links.items number)) Tags) (page html (Alternative link)) e
-    go kinds.Plain e = absurd (cc e)
-    go (kinds.Run number) e = absurd (cc e)
-    go kinds.Escaped e = absurd (cc e)
-    go kinds.Nothing e = absurd (cc e)
-    go (kinds.Character c) e = absurd (cc e)
-    go (kinds.Code from to) e = absurd (cc e)
-    go kinds.Html e = absurd (cc e)
-    go (kinds.Autolink is_address) e = absurd (cc e)
-    go kinds.Soft e = absurd (cc e)
-    go kinds.Hard e = absurd (cc e)
-    go (kinds.Start number) e = absurd (cc e)
+    go _ e = absurd (cc e)
 
 -- from a mark on, without text before it
 events-here : (source : List ℕ) (targets : Targets) (reader : Reader) (at : ℕ) → at < length reader.marks.items
@@ -294,14 +277,14 @@ unfolding events_of
 events-here source targets reader at h =
     let m = mark_numbered reader.marks.items at in
     ap (events_from source targets reader m.at) (drop_more reader.marks.items at no_mark h) ∙ events-next source targets reader m.at m (drop (at + 1) reader.marks.items)
-    ∙ ap (λ t. events_of (runs_in reader.runs.runs.items) (pairs_in reader.runs.pairs.items) (texts t) ++ events_at source targets reader at) (slice-none source m.at m.at refl)
+    ∙ ap (λ t. events_of (runs_in reader.runs.runs.items) (pairs_in reader.runs.pairs.items) (texts t) ++ events_at source targets reader at) (slice-none source m.at)
 
 laid-here : (source : List ℕ) (targets : Targets) (reader : Reader) (from at : ℕ) → at < length reader.marks.items → AreLaid false source targets reader.runs.runs.items reader.links.items from (length source) (drop at reader.marks.items)
     → AreLaid false source targets reader.runs.runs.items reader.links.items (mark_numbered reader.marks.items at).at (length source) (drop at reader.marks.items)
 laid-here source targets reader from at h laid =
     let m = mark_numbered reader.marks.items at in
     let next = laid-next source targets reader from at h laid in
-    let here : IsUnmarked false source m.at m.at = record { between = (omega arith, next.1.1, next.1.1); text = ap (list_all (stays_text false)) (slice-none source m.at m.at refl) } in
+    let here : IsUnmarked false source m.at m.at = record { between = (omega arith, next.1.1, next.1.1); text = ap (list_all (stays_text false)) (slice-none source m.at) } in
     subst (AreLaid false source targets reader.runs.runs.items reader.links.items m.at (length source)) (sym (drop_more reader.marks.items at no_mark h)) (here, next.1, next.2, next.3)
 
 pub alternative-end : (source : List ℕ) (targets : Targets) (reader : Reader) (old html before : List ℕ) (start link from at : ℕ) (mark : Mark) → at < length reader.marks.items → mark ≡ mark_numbered reader.marks.items at

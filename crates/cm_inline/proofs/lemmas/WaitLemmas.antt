@@ -14,7 +14,7 @@ use Rattle.cm_inline.specs.steps.Openers.{spent}
 use Rattle.cm_inline.proofs.lemmas.BottomLemmas.{kind-small}
 use Rattle.cm_inline.proofs.lemmas.NumberLemmas.{nat-split as nat_split}
 use Rattle.cm_inline.proofs.lemmas.ReserveLemmas.{reserve-push, reserve-remove, above-all}
-use Rattle.cm_inline.proofs.lemmas.SearchLemmas.{FoundBy, none-looks, find-none, sound-raise, sound-push, sound-below}
+use Rattle.cm_inline.proofs.lemmas.SearchLemmas.{FoundBy, none-looks, find-none, sound-raise, sound-push, sound-below, below-more}
 use Rattle.cm_inline.specs.steps.pairing.Events.{Event, Rest}
 use Rattle.cm_inline.specs.steps.pairing.Readings.{StandFor}
 use Rattle.cm_inline.specs.steps.pairing.Stacks.{NoneOpens, Stacked, taken, rest_of}
@@ -157,36 +157,29 @@ pub record Pairs (fs : List Event) (before : List Item) (c : Run) (e : Entry) (l
 
 pub waits-pairs : (fs : List Event) (before : List Item) (c : Run) (e : Entry) (l : Listed) (bs : List ℕ) → WaitAsOpeners fs before l bs → (g : FoundBy c (get_or bs (kind c) 0) l.entries e)
     → Pairs fs before c e l (after_pair c e (looks_for c (get_or bs (kind c) 0) l.entries) g.below l) bs
-waits-pairs fs before c e l bs w g = record {
-  below = g.below;
-  entries = refl;
-  found = found;
-  waits = record {
-    stacked = subst (Stacked (rest_of (used e.run c) e ++ g.below) (pair_events c e g.below fs before found)) (sym (pair-items c e.run found.low found.inside)) (pair-stacked c e g.below fs before found);
-    falling = ready.falling;
-    under = ready.under;
-    size = w.size;
-    low = w.low;
-    sound = (remains 0 c e l bs (waits-ready w) g).sound (sound-below bs g.passed (e ∷ g.below) (subst (AreSound bs) g.whole w.sound));
-  };
-  nearest = found-nearest c e g.below fs before found g.opens;
-  paid = paid-pairs c e l bs (waits-ready w) g;
-  made = omega (arith, g.looks);
-}
-  where
-    found : Found c e g.below fs before
-    found = stacked-found c g.passed e g.below fs before (subst (λ es. Stacked es fs before) g.whole w.stacked) g.none
-
-    ready : IsReady (after_pair c e (looks_for c (get_or bs (kind c) 0) l.entries) g.below l) bs
-    ready = ready-pairs c e l bs (looks_for c (get_or bs (kind c) 0) l.entries) (waits-ready w) g
+waits-pairs fs before c e l bs w g =
+    let found = stacked-found c g.passed e g.below fs before (subst (λ es. Stacked es fs before) g.whole w.stacked) g.none in
+    let ready = ready-pairs c e l bs (looks_for c (get_or bs (kind c) 0) l.entries) (waits-ready w) g in
+    record {
+      below = g.below;
+      entries = refl;
+      found = found;
+      waits = record {
+        stacked = subst (Stacked (rest_of (used e.run c) e ++ g.below) (pair_events c e g.below fs before found)) (sym (pair-items c e.run found.low found.inside)) (pair-stacked c e g.below fs before found);
+        falling = ready.falling;
+        under = ready.under;
+        size = w.size;
+        low = w.low;
+        sound = (remains 0 c e l bs (waits-ready w) g).sound (sound-below bs g.passed (e ∷ g.below) (subst (AreSound bs) g.whole w.sound));
+      };
+      nearest = found-nearest c e g.below fs before found g.opens;
+      paid = paid-pairs c e l bs (waits-ready w) g;
+      made = omega (arith, g.looks);
+    }
 
 -- a run that was passed: it waits, stays as it is, or is gone
 abbrev pub passed_by : Listed → List Entry → Listed
 passed_by l entries = record { entries = entries; looks = l.looks; next = l.next + 1 }
-
-below-more : (n m : ℕ) (es : List Entry) → n ≤ m → Below n es → Below m es
-below-more n m [] p h = tt
-below-more n m (e ∷ es) p h = let q : e.place < n = h.0 in (omega arith, below-more n m es p h.1)
 
 pub waits-opener : (fs : List Event) (before : List Item) (e : Entry) (l : Listed) (bs : List ℕ) → WaitAsOpeners fs before l bs → e.run.opens ≡ true → e.place ≡ l.next
     → WaitAsOpeners (fs ++ Rest e.place e.run ∷ []) (Delimiters e.run ∷ before) (passed_by l (e ∷ l.entries)) bs × ((kinds : ℕ) → spent kinds (passed_by l (e ∷ l.entries)) bs ≤ spent kinds l bs + (kinds + 1 + e.run.left))

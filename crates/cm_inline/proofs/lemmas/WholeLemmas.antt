@@ -61,11 +61,8 @@ ahead-step rules defined source so_far more at end within further gives =
 -- an atom that puts one item
 pub adds-item : (rules : Rules) (defined : Defined) (items : List pairing.Item) (a : Atom) (rest : List ℕ) (i : pairing.Item) → item_for a rest ≡ Some i → add_atom rules defined items a rest ≡ with_item items i rest
 unfolding add_atom
-adds-item rules defined items (Plain text) rest i e = ap (λ i. with_item items i rest) (cc e)
-adds-item rules defined items (Whole inline) rest i e = ap (λ i. with_item items i rest) (cc e)
-adds-item rules defined items (Delimiter run) rest i e = ap (λ i. with_item items i rest) (cc e)
-adds-item rules defined items (OpenBracket image) rest i e = ap (λ i. with_item items i rest) (cc e)
 adds-item rules defined items CloseBracket rest i e = absurd (cc e)
+adds-item rules defined items _ rest i e = ap (λ i. with_item items i rest) (cc e)
 
 pub ahead-atom : (rules : Rules) (defined : Defined) (source : List ℕ) (so_far : List pairing.Item) (at : ℕ) (item : pairing.Item) (end : ℕ) → at < length source → IsAtom rules source at item end
     → ahead rules defined source (so_far ++ item ∷ []) end ≡ ahead rules defined source so_far at

@@ -8,8 +8,7 @@ use Rattle.cm_inline.proofs.atoms.run.Goals as goal
 
 small : (m : Marker) → byte_of m < 128
 small Star = omega arith
-small Underscore = omega arith
-small Tilde = omega arith
+small _ = omega arith
 
 pub returns-then-not-is_run : goal.returns-then-not-is_run
 returns-then-not-is_run c =
