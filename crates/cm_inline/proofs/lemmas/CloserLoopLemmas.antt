@@ -16,7 +16,7 @@ use Rattle.cm_inline.specs.steps.Openers.{Stack, leaving}
 use Rattle.cm_inline.specs.steps.Runs.{paired_run, run_of, pair_in, runs_in, pairs_in}
 use Rattle.cm_inline.specs.steps.Searching.{kind, IsMarked, find_opener, looks_for, from_found}
 use Rattle.cm_inline.proofs.lemmas.ClosingLemmas.{pair_written, raised, closing-further, closing-ends, closing-fails, closed_run, put-finished, next-gone, next-text, next-opener}
-use Rattle.cm_inline.proofs.lemmas.PartLemmas.{ends-none, chain-none}
+use Rattle.cm_inline.proofs.lemmas.PartLemmas.{ends-none, chain-none, AreSuch, AllOf, such-none, such-append, such-parts}
 use Rattle.cm_inline.proofs.lemmas.SearchLemmas.{FoundBy, find-found}
 use Rattle.cm_inline.proofs.lemmas.StackLemmas.{Found, stacked-found}
 use Rattle.cm_inline.proofs.lemmas.StateLemmas.{MakesPair, steps-fails, leaving-rest, left-in, cut_run, same-list, same-state}
@@ -24,40 +24,24 @@ use Rattle.cm_inline.proofs.lemmas.WaitLemmas.{passed_by}
 
 -- what is left of a run among events is what is left of the run of that number
 abbrev pub AreHeld : List PairedRun → List Event → Type 0
-AreHeld runs [] = Unit {0}
-AreHeld runs (Rest n r ∷ fs) = (r ≡ (get_or runs n no_paired_run).run) × AreHeld runs fs
-AreHeld runs (f ∷ fs) = AreHeld runs fs
-
-held-none : (runs : List PairedRun) (fs : List Event) → HaveNoRun fs → AreHeld runs fs
-held-none runs [] h = tt
-held-none runs (Rest n r ∷ fs) h = absurd h.0
-held-none runs (_ ∷ fs) h = held-none runs fs h.1
-
-held-append : (runs : List PairedRun) (fs gs : List Event) → AreHeld runs fs → AreHeld runs gs → AreHeld runs (fs ++ gs)
-held-append runs [] gs h g = g
-held-append runs (Rest n r ∷ fs) gs h g = (h.0, held-append runs fs gs h.1 g)
-held-append runs (_ ∷ fs) gs h g = held-append runs fs gs h g
+AreHeld runs fs = AreSuch (λ n r. r ≡ (get_or runs n no_paired_run).run) fs
 
 held-at : (runs : List PairedRun) (fs gs : List Event) (n : ℕ) (r : Run) → AreHeld runs (fs ++ Rest n r ∷ gs) → r ≡ (get_or runs n no_paired_run).run
 held-at runs [] gs n r h = h.0
 held-at runs (Rest k q ∷ fs) gs n r h = held-at runs fs gs n r h.1
 held-at runs (_ ∷ fs) gs n r h = held-at runs fs gs n r h
 
-held-parts : (runs : List PairedRun) (pairs : List Pair) (ms : List Part) → AreParts runs pairs ms → AreHeld runs (events_of runs pairs ms)
-unfolding events_of
-held-parts runs pairs [] h = tt
-held-parts runs pairs (Numbered k ∷ ms) h =
-    let r = get_or runs k no_paired_run in
-    held-append runs (run_events pairs k r) (events_of runs pairs ms)
-    (held-append runs (ends (drop r.from (take r.to pairs))) (Rest k r.run ∷ _) (held-none runs (ends (drop r.from (take r.to pairs))) (ends-none (drop r.from (take r.to pairs)))) (refl, held-none runs _ (chain-none (reverse pairs) r.opened)))
-    (held-parts runs pairs ms h.3)
-held-parts runs pairs (Known fs ∷ ms) h = held-append runs fs (events_of runs pairs ms) (held-none runs fs h.0) (held-parts runs pairs ms h.1)
+all-held : (runs : List PairedRun) (ms : List Part) → AllOf (λ k. (get_or runs k no_paired_run).run ≡ (get_or runs k no_paired_run).run) ms
+all-held runs [] = tt
+all-held runs (Numbered k ∷ ms) = (refl, all-held runs ms)
+all-held runs (Known fs ∷ ms) = all-held runs ms
 
 pub held-run : (parts : List Part) (first : ℕ) (c : Run) (s : State) (before : List Item) (e : Entry) → PartsHold parts first s before → FoundBy c (get_or s.bottoms (kind c) 0) s.list.entries e → e.run ≡ (get_or s.runs e.place no_paired_run).run
 held-run parts first c s before e w g =
     let fs = so_far parts first s in
     let f : Found c e g.below fs before = stacked-found c g.passed e g.below fs before (subst (λ es. Stacked es fs before) g.whole w.waits.stacked) g.none in
-    let all : AreHeld s.runs fs = held-append s.runs (events_of s.runs s.pairs parts) (ends (drop first s.pairs)) (held-parts s.runs s.pairs parts w.marked) (held-none s.runs (ends (drop first s.pairs)) (ends-none (drop first s.pairs))) in
+    let such = λ (n : ℕ) (r : Run). r ≡ (get_or s.runs n no_paired_run).run in
+    let all : AreHeld s.runs fs = such-append such (events_of s.runs s.pairs parts) (ends (drop first s.pairs)) (such-parts such s.runs s.pairs parts (all-held s.runs parts) w.marked) (such-none such _ (ends-none (drop first s.pairs))) in
     held-at s.runs f.front f.back e.place e.run (subst (AreHeld s.runs) f.events all)
 
 -- so the pair is written as the definition has it

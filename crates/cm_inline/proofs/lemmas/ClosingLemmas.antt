@@ -1,6 +1,6 @@
 -- The steps of the loops of the code.
 use Rattle.std.proofs.Common.{◌≡◌, ◌⊎◌, inl, inr, ℕ, suc, ◌+◌, ◌<◌, ◌≤◌, Bool, true, false, cond, ◌==◌, nat_le, List, [], ◌∷◌, ◌++◌, length, take, drop, reverse, get_or, set, Some, None, refl, sym, ap, subst, ◌∙◌, arith, append-nil, append_assoc, length-append}
-use Rattle.std.proofs.lemmas.List.{reverse-append, get_or-set_same, get_or-set_other, length-set}
+use Rattle.std.proofs.lemmas.List.{reverse-append, get_or-set_same, get_or-set_other, length-set, take_all}
 use Rattle.std.proofs.lemmas.Bool.{cond-false, ne_eqb, leb-true, le-leb}
 use Rattle.cm_scan.specs.inlines.Delimiters.{Run}
 use Rattle.cm_scan.specs.inlines.Pairing.{Item, Finished, Delimiters, Opened, nearest_opener, used, without, emphasised, settled}
@@ -23,7 +23,7 @@ use Rattle.cm_inline.specs.steps.pairing.Parts.{Pair, PairedRun, Part, Numbered,
 use Rattle.cm_inline.specs.steps.pairing.Readings.{starts_in}
 use Rattle.cm_inline.specs.steps.pairing.Stacks.{taken}
 use Rattle.cm_inline.specs.steps.pairing.WaitingOpeners.{WaitAsOpeners}
-use Rattle.cm_inline.proofs.lemmas.PartLemmas.{ends-none, chain-none, pair-written, open-starts, pair-events-written}
+use Rattle.cm_inline.proofs.lemmas.PartLemmas.{ends-none, chain-none, pair-written, open-starts, pair-events-written, AreSuch, such-none, such-append, such-parts, under-all}
 use Rattle.cm_inline.proofs.lemmas.ReadingLemmas.{starts-append}
 use Rattle.cm_inline.proofs.lemmas.StackLemmas.{pair_events}
 use Rattle.cm_inline.proofs.lemmas.WaitLemmas.{Pairs, after_pair, waits-pairs, Fails, with_looks, waits-fails, passed_by, waits-opener, waits-text, waits-gone}
@@ -279,54 +279,29 @@ unfolding events_of
 so-far-finished parts number first left run list s within under =
     let now = closed_run (record run { left = left }) first (length s.pairs) in
     let runs = set s.runs number now in
-    ap (λ t. events_of runs s.pairs (parts ++ Numbered number ∷ []) ++ ends t) (drop-length s.pairs)
+    ap (λ t. events_of runs s.pairs (parts ++ Numbered number ∷ []) ++ ends t) (drop-all s.pairs)
     ∙ append-nil (events_of runs s.pairs (parts ++ Numbered number ∷ []))
     ∙ events-append runs s.pairs parts (Numbered number ∷ [])
     ∙ ap (λ t. t ++ events_of runs s.pairs (Numbered number ∷ [])) (events-elsewhere number now s.runs s.pairs parts under)
     ∙ ap (λ t. events_of s.runs s.pairs parts ++ t)
     (append-nil (run_events s.pairs number (get_or runs number no_run)) ∙ ap (run_events s.pairs number) (get_or-set_same s.runs number now no_run within)
-    ∙ ap (λ t. ends (drop first t) ++ Rest number now.run ∷ chain (reverse s.pairs) 0) (take-length s.pairs) ∙ ap (λ t. ends (drop first s.pairs) ++ Rest number now.run ∷ t) (chain-zero (reverse s.pairs)))
+    ∙ ap (λ t. ends (drop first t) ++ Rest number now.run ∷ chain (reverse s.pairs) 0) (take_all (length s.pairs) s.pairs (omega arith)) ∙ ap (λ t. ends (drop first s.pairs) ++ Rest number now.run ∷ t) (chain-zero (reverse s.pairs)))
     ∙ sym (append_assoc (events_of s.runs s.pairs parts) (ends (drop first s.pairs)) (Rest number now.run ∷ []))
-  where
-    drop-length : (ps : List Pair) → drop (length ps) ps ≡ []
-    drop-length [] = refl
-    drop-length (p ∷ ps) = drop-length ps
-
-    take-length : (ps : List Pair) → take (length ps) ps ≡ ps
-    take-length [] = refl
-    take-length (p ∷ ps) = ap (λ t. p ∷ t) (take-length ps)
 
 -- the numbers among events are below this one
 abbrev pub AreLow : ℕ → List Event → Type 0
-AreLow n [] = Unit {0}
-AreLow n (Rest k r ∷ fs) = (k < n) × AreLow n fs
-AreLow n (f ∷ fs) = AreLow n fs
+AreLow n fs = AreSuch (λ k r. k < n) fs
 
 rising-behind : (low n : ℕ) (r : Run) (fs : List Event) → Rising low fs → low ≤ n → AreLow n fs → Rising low (fs ++ Rest n r ∷ [])
 rising-behind low n r [] h p a = (p, tt)
 rising-behind low n r (Rest k q ∷ fs) h p a = (h.0, rising-behind (suc k) n r fs h.1 (omega (arith, a.0)) a.1)
 rising-behind low n r (_ ∷ fs) h p a = rising-behind low n r fs h p a
 
-pub low-none : (n : ℕ) (fs : List Event) → HaveNoRun fs → AreLow n fs
-low-none n [] h = tt
-low-none n (Rest k r ∷ fs) h = absurd h.0
-low-none n (_ ∷ fs) h = low-none n fs h.1
-
-pub low-append : (n : ℕ) (fs gs : List Event) → AreLow n fs → AreLow n gs → AreLow n (fs ++ gs)
-low-append n [] gs h g = g
-low-append n (Rest k r ∷ fs) gs h g = (h.0, low-append n fs gs h.1 g)
-low-append n (_ ∷ fs) gs h g = low-append n fs gs h g
-
 pub low-parts : (n : ℕ) (runs : List PairedRun) (pairs : List Pair) (ms : List Part) → AreUnder n ms → AreParts runs pairs ms → AreLow n (events_of runs pairs ms)
-unfolding events_of
-low-parts n runs pairs [] u h = tt
-low-parts n runs pairs (Numbered k ∷ ms) u h =
-    let r = get_or runs k no_run in
-    low-append n (run_events pairs k r) (events_of runs pairs ms)
-    (low-append n (ends (drop r.from (take r.to pairs))) (Rest k r.run ∷ chain (reverse pairs) r.opened) (low-none n (ends (drop r.from (take r.to pairs))) (ends-none (drop r.from (take r.to pairs))))
-    (u.0, low-none n (chain (reverse pairs) r.opened) (chain-none (reverse pairs) r.opened)))
-    (low-parts n runs pairs ms u.1 h.3)
-low-parts n runs pairs (Known fs ∷ ms) u h = low-append n fs (events_of runs pairs ms) (low-none n fs h.0) (low-parts n runs pairs ms u h.1)
+low-parts n runs pairs ms u h = such-parts (λ k r. k < n) runs pairs ms (under-all n n ms (omega arith) u) h
+
+low-so-far : (n first : ℕ) (s : State) (parts : List Part) → AreUnder n parts → AreParts s.runs s.pairs parts → AreLow n (so_far parts first s)
+low-so-far n first s parts u h = such-append (λ k r. k < n) (events_of s.runs s.pairs parts) (ends (drop first s.pairs)) (low-parts n s.runs s.pairs parts u h) (such-none (λ k r. k < n) _ (ends-none (drop first s.pairs)))
 
 -- So its part is put behind.
 pub put-finished : (parts : List Part) (old : State) (number left : ℕ) (run : Run) (had : List Item) (s : State) → number < length s.runs → number ≡ s.list.next → CloserDone parts old run had s left
@@ -346,8 +321,7 @@ put-finished parts old number left run had s within at d =
       marked = parts-append (set s.runs number now) s.pairs parts (Numbered number ∷ []) (parts-elsewhere number now s.runs s.pairs parts under w.marked)
           (omega (arith, within, length-set s.runs number now), omega (arith, ap (λ (p : PairedRun). p.opened) is), omega (arith, ap (λ (p : PairedRun). p.to) is), tt);
       under = under;
-      rising = rising-behind 0 number (record run { left = left }) (so_far parts first s) w.rising (omega arith)
-          (low-append number (events_of s.runs s.pairs parts) (ends (drop first s.pairs)) (low-parts number s.runs s.pairs parts under w.marked) (low-none number (ends (drop first s.pairs)) (ends-none (drop first s.pairs))));
+      rising = rising-behind 0 number (record run { left = left }) (so_far parts first s) w.rising (omega arith) (low-so-far number first s parts under w.marked);
       goes = d.goes;
       rest_is = d.rest_is;
       paid = d.paid;
@@ -372,8 +346,7 @@ put-other parts s number run had within at is other some w =
           ∙ ap (λ t. t ++ Rest number run ∷ []) (sym (ap (λ t. events_of s.runs s.pairs parts ++ ends t) (drop-all s.pairs) ∙ append-nil (events_of s.runs s.pairs parts)));
       marked = parts-append s.runs s.pairs parts (Numbered number ∷ []) w.marked (within, omega (arith, ap (λ (p : PairedRun). p.opened) is), omega (arith, ap (λ (p : PairedRun). p.to) is), tt);
       under = under;
-      rising = rising-behind 0 number run (so_far parts (length s.pairs) s) w.rising (omega arith)
-          (low-append number (events_of s.runs s.pairs parts) (ends (drop (length s.pairs) s.pairs)) (low-parts number s.runs s.pairs parts under w.marked) (low-none number (ends (drop (length s.pairs) s.pairs)) (ends-none (drop (length s.pairs) s.pairs))));
+      rising = rising-behind 0 number run (so_far parts (length s.pairs) s) w.rising (omega arith) (low-so-far number (length s.pairs) s parts under w.marked);
       goes = sym (pass-other had run other);
       rest_is = sym (cond-false (nat_le run.left 0) [] (Delimiters run ∷ []) (not-none run.left some));
       paid = λ kinds known. omega arith;

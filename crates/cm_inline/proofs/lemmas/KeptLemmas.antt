@@ -9,15 +9,10 @@ use Rattle.cm_inline.specs.steps.pairing.Readings.{StandFor}
 use Rattle.cm_inline.specs.steps.pairing.Segments.{Segment, Waiting, Made, all_parts, numbers_in, AreSegments}
 use Rattle.cm_inline.specs.steps.pairing.States.{Grows}
 use Rattle.cm_inline.proofs.lemmas.ClosingLemmas.{parts-append}
-use Rattle.cm_inline.proofs.lemmas.PartLemmas.{ends-none, chain-none, chain-stays, rising-once}
+use Rattle.cm_inline.proofs.lemmas.PartLemmas.{ends-none, chain-none, chain-stays, rising-once, AreSuch, AllOf, such-parts, under-all}
 use Rattle.cm_inline.proofs.lemmas.PassLemmas.{rising-behind-of}
 
--- the numbers of parts, and of segments, are such
-abbrev pub AllOf : (ℕ → Type 0) → List Part → Type 0
-AllOf P [] = Unit {0}
-AllOf P (Numbered k ∷ ms) = P k × AllOf P ms
-AllOf P (Known fs ∷ ms) = AllOf P ms
-
+-- the numbers of segments are such
 abbrev pub AllIn : (ℕ → Type 0) → List Segment → Type 0
 AllIn P [] = Unit {0}
 AllIn P (Waiting k run ∷ ss) = P k × AllIn P ss
@@ -114,11 +109,6 @@ behind-after low runs pairs [] g = omega arith
 behind-after low runs pairs (Waiting k run ∷ ss) g = omega (arith, g.0, behind-after (k + 1) runs pairs ss g.3)
 behind-after low runs pairs (Made parts item high ∷ ss) g = omega (arith, g.0.high_is, behind-after high runs pairs ss g.1)
 
-under-all : (n m : ℕ) (ms : List Part) → n ≤ m → AreUnder n ms → AllOf (λ k. k < m) ms
-under-all n m [] p h = tt
-under-all n m (Numbered k ∷ ms) p h = (omega (arith, h.0, p), under-all n m ms p h.1)
-under-all n m (Known fs ∷ ms) p h = under-all n m ms p h
-
 pub segments-under : (m low : ℕ) (runs : List PairedRun) (pairs : List Pair) (ss : List Segment) → number_after low ss ≤ m → AreSegments runs pairs low ss → AllIn (λ k. k < m) ss
 unfolding number_after
 segments-under m low runs pairs [] h g = tt
@@ -145,38 +135,15 @@ first-waits low n ns runs pairs (Made parts item high ∷ ss) g e = omega (arith
 -- events whose runs are of numbers from one on rise from it on
 
 abbrev Highs : ℕ → List Event → Type 0
-Highs n [] = Unit {0}
-Highs n (Rest k r ∷ fs) = (n ≤ k) × Highs n fs
-Highs n (f ∷ fs) = Highs n fs
+Highs n fs = AreSuch (λ k r. n ≤ k) fs
 
 raise : (n low : ℕ) (fs : List Event) → Highs n fs → Rising low fs → Rising n fs
 raise n low [] h r = tt
 raise n low (Rest k q ∷ fs) h r = (h.0, r.1)
 raise n low (_ ∷ fs) h r = raise n low fs h r
 
-highs-append : (n : ℕ) (fs gs : List Event) → Highs n fs → Highs n gs → Highs n (fs ++ gs)
-highs-append n [] gs h g = g
-highs-append n (Rest k q ∷ fs) gs h g = (h.0, highs-append n fs gs h.1 g)
-highs-append n (_ ∷ fs) gs h g = highs-append n fs gs h g
-
-highs-none : (n : ℕ) (fs : List Event) → HaveNoRun fs → Highs n fs
-highs-none n [] h = tt
-highs-none n (Rest k r ∷ fs) h = absurd h.0
-highs-none n (_ ∷ fs) h = highs-none n fs h.1
-
-highs-parts : (n : ℕ) (runs : List PairedRun) (pairs : List Pair) (ms : List Part) → AllOf (λ k. n ≤ k) ms → AreParts runs pairs ms → Highs n (events_of runs pairs ms)
-unfolding events_of
-highs-parts n runs pairs [] a h = tt
-highs-parts n runs pairs (Numbered k ∷ ms) a h =
-    let r = get_or runs k no_run in
-    highs-append n (run_events pairs k r) (events_of runs pairs ms)
-    (highs-append n (ends (drop r.from (take r.to pairs))) (Rest k r.run ∷ chain (reverse pairs) r.opened) (highs-none n (ends (drop r.from (take r.to pairs))) (ends-none (drop r.from (take r.to pairs))))
-    (a.0, highs-none n (chain (reverse pairs) r.opened) (chain-none (reverse pairs) r.opened)))
-    (highs-parts n runs pairs ms a.1 h.3)
-highs-parts n runs pairs (Known fs ∷ ms) a h = highs-append n fs (events_of runs pairs ms) (highs-none n fs h.0) (highs-parts n runs pairs ms a h.1)
-
 pub rising-raised : (n low : ℕ) (runs : List PairedRun) (pairs : List Pair) (ms : List Part) → AllOf (λ k. n ≤ k) ms → AreParts runs pairs ms → Rising low (events_of runs pairs ms) → Rising n (events_of runs pairs ms)
-rising-raised n low runs pairs ms a h r = raise n low (events_of runs pairs ms) (highs-parts n runs pairs ms a h) r
+rising-raised n low runs pairs ms a h r = raise n low (events_of runs pairs ms) (such-parts (λ k r. n ≤ k) runs pairs ms a h) r
 
 pub parts-under : (runs : List PairedRun) (pairs : List Pair) (ms : List Part) → AreParts runs pairs ms → AreUnder (length runs) ms
 parts-under runs pairs [] h = tt

@@ -11,6 +11,7 @@ use Rattle.cm_inline.specs.steps.pairing.Readings.{starts_in}
 use Rattle.cm_inline.specs.steps.pairing.Stacks.{taken}
 use Rattle.cm_inline.specs.steps.pairing.Parts.{Pair, PairedRun, Part, Numbered, Known, chain, starts, ends, ends_between, no_run, run_events, events_of, with_pair, with_opened, opened_event, open_at, Absent, Rising, HaveNoRun, AreParts}
 use Rattle.cm_inline.proofs.lemmas.StackLemmas.{Found, pair_events}
+use Rattle.cm_inline.specs.steps.pairing.ClosingRuns.{AreUnder}
 
 -- chains stay when a pair comes
 pub chain-stays : (p : Pair) (ps : List Pair) (n : ℕ) → n ≤ length ps → chain (p ∷ ps) n ≡ chain ps n
@@ -55,6 +56,43 @@ chain-none (p ∷ ps) n = go (n == suc (length ps)) (chain-none ps p.before) (ch
     go : (b : Bool) → HaveNoRun (chain ps p.before) → HaveNoRun (chain ps n) → HaveNoRun (cond b (Start p.tag ∷ chain ps p.before) (chain ps n))
     go true h g = (tt, h)
     go false h g = g
+
+-- the runs among events, with their numbers, are such
+abbrev pub AreSuch : (ℕ → Run → Type 0) → List Event → Type 0
+AreSuch P [] = Unit {0}
+AreSuch P (Rest k r ∷ fs) = P k r × AreSuch P fs
+AreSuch P (f ∷ fs) = AreSuch P fs
+
+pub such-none : (P : ℕ → Run → Type 0) (fs : List Event) → HaveNoRun fs → AreSuch P fs
+such-none P [] h = tt
+such-none P (Rest k r ∷ fs) h = absurd h.0
+such-none P (_ ∷ fs) h = such-none P fs h.1
+
+pub such-append : (P : ℕ → Run → Type 0) (fs gs : List Event) → AreSuch P fs → AreSuch P gs → AreSuch P (fs ++ gs)
+such-append P [] gs h g = g
+such-append P (Rest k r ∷ fs) gs h g = (h.0, such-append P fs gs h.1 g)
+such-append P (_ ∷ fs) gs h g = such-append P fs gs h g
+
+-- and so are the numbers of parts
+abbrev pub AllOf : (ℕ → Type 0) → List Part → Type 0
+AllOf P [] = Unit {0}
+AllOf P (Numbered k ∷ ms) = P k × AllOf P ms
+AllOf P (Known fs ∷ ms) = AllOf P ms
+
+pub such-parts : (P : ℕ → Run → Type 0) (runs : List PairedRun) (pairs : List Pair) (ms : List Part) → AllOf (λ k. P k (get_or runs k no_run).run) ms → AreParts runs pairs ms → AreSuch P (events_of runs pairs ms)
+unfolding events_of
+such-parts P runs pairs [] a h = tt
+such-parts P runs pairs (Numbered k ∷ ms) a h =
+    let r = get_or runs k no_run in
+    such-append P (run_events pairs k r) (events_of runs pairs ms)
+    (such-append P (ends (drop r.from (take r.to pairs))) (Rest k r.run ∷ _) (such-none P _ (ends-none (drop r.from (take r.to pairs)))) (a.0, such-none P _ (chain-none (reverse pairs) r.opened)))
+    (such-parts P runs pairs ms a.1 h.3)
+such-parts P runs pairs (Known fs ∷ ms) a h = such-append P fs (events_of runs pairs ms) (such-none P fs h.0) (such-parts P runs pairs ms a h.1)
+
+pub under-all : (n m : ℕ) (ms : List Part) → n ≤ m → AreUnder n ms → AllOf (λ k. k < m) ms
+under-all n m [] p h = tt
+under-all n m (Numbered k ∷ ms) p h = (omega (arith, h.0, p), under-all n m ms p h.1)
+under-all n m (Known fs ∷ ms) p h = under-all n m ms p h
 
 -- the events of a run with its number
 open-run : (number count n : ℕ) (tag : Tag) (pairs : List Pair) (r : PairedRun) →

@@ -61,10 +61,7 @@ none-laid lines source at boundary = record { between = (omega arith, boundary, 
 -- views that are the same in each part
 pub same-view : (v w : View) → v.lines ≡ w.lines → v.marks ≡ w.marks → v.runs ≡ w.runs → v.waiting ≡ w.waiting → v.pairs ≡ w.pairs → v.links ≡ w.links → v.links_end ≡ w.links_end → v.ends ≡ w.ends → v ≡ w
 same-view v w lines marks runs waiting pairs links links_end ends =
-    ap (λ (x : View). record v { lines = x.lines }) (ap (λ l. record v { lines = l }) lines)
-    ∙ ap (λ t. record v { lines = w.lines; marks = t }) marks ∙ ap (λ t. record v { lines = w.lines; marks = w.marks; runs = t }) runs ∙ ap (λ t. record v { lines = w.lines; marks = w.marks; runs = w.runs; waiting = t }) waiting
-    ∙ ap (λ t. record w { pairs = t; links = v.links; links_end = v.links_end; ends = v.ends }) pairs ∙ ap (λ t. record w { links = t; links_end = v.links_end; ends = v.ends }) links
-    ∙ ap (λ t. record w { links_end = t; ends = v.ends }) links_end ∙ ap (λ t. record w { ends = t }) ends
+    λ i. record { lines = lines i; marks = marks i; runs = runs i; waiting = waiting i; pairs = pairs i; links = links i; links_end = links_end i; ends = ends i }
 
 abbrev pub fresh_view : Bool → MissingEnds → View
 fresh_view lines ends = record { lines = lines; marks = []; runs = []; waiting = []; pairs = []; links = []; links_end = 0; ends = ends }
