@@ -39,6 +39,8 @@ use Rattle.cm_inline.specs.Closers.{kinds_with, kinds_by}
 use Rattle.cm_inline.specs.Emphases.{emphases_of}
 use Rattle.cm_inline.specs.steps.Searching.{kind}
 use Rattle.cm_inline.specs.steps.Reads.{Stands, atom_in, is_break_byte, item_for, IsNew, IsAtom, Begins}
+use Rattle.std.proofs.lemmas.Bool.Decides.{nat_tests}
+use Rattle.std.proofs.Common.{rules}
 
 -- the source from the place on
 front : (source : List ℕ) (at b : ℕ) → Stands source at b → drop at source ≡ b ∷ drop (at + 1) source
@@ -66,16 +68,7 @@ marker-stays _ = refl
 module _ (rules : Rules) (source : List ℕ) (at : ℕ) where
   is-atom : (item : items.Item) (end : ℕ) (a : AtomRead) → at < length source → atom_in rules source at ≡ a → a.rest ≡ drop end source → item_for a.atom a.rest ≡ Some item
       → IsCharBoundary source end → IsNew (kinds_by rules) item → IsAtom rules source at item end
-  is-atom item end a within same rest is boundary fresh =
-      let left : (atom_in rules source at).rest ≡ drop end source = ap (λ (t : AtomRead). t.rest) same ∙ rest in
-      record {
-        rest = left;
-        item_is = ap (λ (t : AtomRead). item_for t.atom t.rest) same ∙ is;
-        further = further rules source at end within left;
-        within = boundary.0;
-        boundary = boundary;
-        fresh = fresh;
-      }
+  is-atom item end a within same rest is boundary fresh = grind (arith, nat_tests, further)
 
   -- a run
 
@@ -120,9 +113,7 @@ module _ (rules : Rules) (source : List ℕ) (at : ℕ) where
 
   -- the byte after it
   next-stands : (b c : ℕ) → IsUtf8 source → Stands source at b → b < 128 → begins_with c (drop (at + 1) source) ≡ true → Stands source (at + 1) c
-  next-stands b c utf8 s ascii next =
-      let found = begins-at c source (at + 1) next in
-      record { short = s.short; within = found.0; boundary = behind-byte b utf8 s ascii; byte = found.2 }
+  next-stands b c utf8 s ascii next = first_of (search (rules, begins-at, behind-byte), grind (arith, nat_tests, begins-at, behind-byte))
 
   -- a code span, or a backtick string as text
 
@@ -411,9 +402,7 @@ module _ (rules : Rules) (source : List ℕ) (at : ℕ) where
 
   pub opener-is : IsUtf8 source → Stands source at 91 → Begins rules source at (read.Opener false) (at + 1)
   unfolding atom_at markup_atom
-  opener-is utf8 s =
-      let behind = behind-byte 91 utf8 s (omega arith) in
-      record { is = is-atom _ (at + 1) (record { atom = OpenBracket false; rest = drop (at + 1) source }) s.within (here rules source at 91 s) refl refl behind tt; there = (refl, front source at 91 s) }
+  opener-is utf8 s = grind (arith, nat_tests, behind-byte, is-atom, here, front)
 
   -- a run of a marker
 

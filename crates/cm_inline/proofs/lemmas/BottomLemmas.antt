@@ -6,6 +6,7 @@ use Rattle.cm_scan.specs.inlines.Pairing.{Item, Characters, Finished, Linked, De
 use Rattle.cm_scan.proofs.lemmas.inlines.PairingLemmas.{reverse-first, nearest-found, nearest-passes, opened_at}
 use Rattle.cm_inline.specs.Closers.{kinds_of_one, kinds_without_tildes, all_kinds}
 use Rattle.cm_inline.specs.steps.Searching.{kind, IsMarked}
+use Rattle.std.proofs.Common.{rules}
 
 -- closers of stars or underscores with these in common
 record IsAlike (c d : Run) : Type 0 where
@@ -16,18 +17,7 @@ record IsAlike (c d : Run) : Type 0 where
 
 alike-match : (c d o : Run) → IsAlike c d → delimiters_match c o ≡ delimiters_match d o
 unfolding delimiters_match
-alike-match c d o k =
-    ap (λ x. (x == o.character) && rule x (c.opens && c.closes) (c.whole % 3) ((c.whole + o.whole) % 3)) k.character
-    ∙ ap (λ x. (d.character == o.character) && rule d.character (x && c.closes) (c.whole % 3) ((c.whole + o.whole) % 3)) k.opens
-    ∙ ap (λ x. (d.character == o.character) && rule d.character (d.opens && x) (c.whole % 3) ((c.whole + o.whole) % 3)) k.closes
-    ∙ ap (λ x. (d.character == o.character) && rule d.character (d.opens && d.closes) x ((c.whole + o.whole) % 3)) k.rest
-    ∙ ap (λ x. (d.character == o.character) && rule d.character (d.opens && d.closes) (d.whole % 3) x) (sums c.whole d.whole o.whole k.rest)
-  where
-    rule : ℕ → Bool → ℕ → ℕ → Bool
-    rule character both rest sum_rest = character == 126 || not (both || (o.opens && o.closes)) || not (sum_rest == 0) || ((rest == 0) && is_multiple_of_3 o.whole)
-
-    sums : (a b n : ℕ) → a % 3 ≡ b % 3 → (a + n) % 3 ≡ (b + n) % 3
-    sums a b n e = omega (arith, e)
+alike-match c d o k = search rules
 
 -- a closer of tildes matches each opener of tildes
 tildes-match : (c o : Run) → c.character ≡ 126 → delimiters_match c o ≡ (126 == o.character && true)
@@ -69,11 +59,7 @@ number-of c n e = ap (λ n. number (n == 126) (n == 95) c.opens (c.whole % 3)) e
 
 pub kind-small : (c : Run) → kind c < all_kinds
 unfolding kind
-kind-small c = go (c.character == 126) (number-small (c.character == 95) c.opens (c.whole % 3) (omega arith))
-  where
-    go : (b : Bool) → number false (c.character == 95) c.opens (c.whole % 3) < kinds_without_tildes → number b (c.character == 95) c.opens (c.whole % 3) < all_kinds
-    go true h = omega arith
-    go false h = omega (arith, h)
+kind-small c = search rules
 
 -- but for tildes
 pub kind-untilded : (c : Run) → (c.character == 126) ≡ false → kind c < kinds_without_tildes

@@ -8,6 +8,7 @@ use Rattle.cm_scan.specs.inlines.Pairing.{Item, Characters, Finished, Linked, De
 use Rattle.cm_scan.specs.inlines.Brackets.{Defined, LinkEnd, Bracketed, OpenerFound, last_opener, source_up_to, end_at, holds_link, made, bracket_is_text, brackets_are_text, closed_by_bracket, close_bracket}
 use Rattle.cm_inline.specs.declared.brackets.Bracket.{Bracket}
 use Rattle.cm_inline.specs.steps.Brackets.{is_opener, has_opener, closed_at, end_for}
+use Rattle.std.proofs.lemmas.Bool.Decides.{nat_tests}
 
 -- no opener is among items without open brackets
 no-opener : (items before after : List Item) → has_opener items ≡ false → last_opener (reverse items ++ before) after ≡ last_opener before (items ++ after)
@@ -82,9 +83,7 @@ module _ (rules : Rules) (defined : Defined) (source : List ℕ) (outer inner : 
   -- the source between both brackets
   between-is : b.end ≤ at → at < length source → source_up_to (drop b.end source) (93 ∷ rest) ≡ slice_range source b.end at
   unfolding source_up_to
-  between-is low within =
-      let count : length (drop b.end source) - length (93 ∷ rest) ≡ at - b.end = omega (arith, length-drop b.end source, length-drop (at + 1) source, low, within) in
-      ap (λ n. take n (drop b.end source)) count
+  between-is low within = grind (arith, nat_tests, length-drop)
 
   abbrev by_end : Option LinkEnd → Bracketed
   by_end o = elim o as (λ _. Bracketed) [

@@ -14,27 +14,18 @@ use Rattle.cm_inline.specs.steps.Building.{opened, closed}
 use Rattle.cm_inline.specs.steps.Marks.{text_event, texts, stays_text}
 use Rattle.cm_inline.specs.steps.Runs.{byte_of, tag_in, run_of, pairs_in, paired_run}
 use Rattle.cm_inline.proofs.lemmas.EventLemmas.{build-append}
+use Rattle.std.proofs.Common.{rules}
 
 -- text between marks, without a line feed
 
 text-none : (m : Built) → add_text m [] ≡ m
-text-none m = ap (λ t. with_text t) (append-nil m.text)
-  where
-    with_text : List ℕ → Built
-    with_text t = record { content = m.content; text = t; outer = m.outer }
+text-none m = search rules
 
 pub text-more : (m : Built) (a b : List ℕ) → add_text (add_text m a) b ≡ add_text m (a ++ b)
-text-more m a b = ap (λ t. with_text t) (append_assoc m.text a b)
-  where
-    with_text : List ℕ → Built
-    with_text t = record { content = m.content; text = t; outer = m.outer }
+text-more m a b = search (rules, append_assoc)
 
 byte-built : (m : Built) (b : ℕ) → stays_text true b ≡ true → build_one m (text_event b) ≡ add_text m (b ∷ [])
-byte-built m b h = go (b == 10) (and_parts (not (b == 38 || b == 60 || b == 62 || b == 34)) (not (b == 10)) h).1
-  where
-    go : (c : Bool) → not c ≡ true → build_one m (cond c (Whole inlines.Soft) (Text (b ∷ []))) ≡ add_text m (b ∷ [])
-    go true e = absurd (cc e)
-    go false e = refl
+byte-built m b h = search rules
 
 pub texts-built : (runs : List PairedRun) (pairs : List Pair) (text : List ℕ) (m : Built) → list_all (stays_text true) text ≡ true → build m (events_of runs pairs (texts text)) ≡ add_text m text
 unfolding build events_of
@@ -69,8 +60,4 @@ left-last m whole b left counter high h = let none : left - counter ≡ 0 = omeg
 pub run-built : (pairs first second : List made.Pair) (number : ℕ) (r : held.Run) (m ended left new : Built) → first ≡ pairs → second ≡ pairs → ended ≡ build m (ends_between (pairs_in first) r.from r.to)
     → left ≡ add_text ended (replicate r.run.left (byte_of r.run.marker)) → new ≡ build left (starts (pairs_in second) r.opened) → new ≡ build m (run_events (pairs_in pairs) number (paired_run r))
 unfolding build
-run-built pairs first second number r m ended left new same again ends rest opened =
-    let list = pairs_in pairs in
-    opened ∙ ap (λ ps. build left (starts (pairs_in ps) r.opened)) again
-    ∙ ap (λ k. build k (starts list r.opened)) (rest ∙ ap (λ k. add_text k (replicate r.run.left (byte_of r.run.marker))) (ends ∙ ap (λ ps. build m (ends_between (pairs_in ps) r.from r.to)) same))
-    ∙ sym (build-append m (ends_between list r.from r.to) (Rest number (run_of r.run) ∷ starts list r.opened))
+run-built pairs first second number r m ended left new same again ends rest opened = search (rules, build-append)

@@ -21,6 +21,7 @@ use Rattle.cm_inline.proofs.lemmas.SegmentLemmas.{link-means}
 use Rattle.cm_inline.proofs.lemmas.LaidLemmas.{events-append}
 use Rattle.cm_inline.proofs.lemmas.OpenLemmas.{numbers-append}
 use Rattle.cm_inline.proofs.lemmas.StandLemmas.{runs-append}
+use Rattle.std.proofs.Common.{rules}
 
 -- a run is pushed
 
@@ -28,25 +29,7 @@ pub chained-none : AreChained [] []
 chained-none = record { before = λ place h. absurd (omega (arith, h)); opened = λ number. omega arith; closed = λ number. (omega arith, omega arith) }
 
 pub chained-push : (runs : List PairedRun) (pairs : List Pair) (run : Run) → AreChained runs pairs → AreChained (runs ++ fresh run ∷ []) pairs
-chained-push runs pairs run c = record { before = c.before; opened = λ n. (at n).0; closed = λ n. (at n).1 }
-  where
-    at : (n : ℕ) → ((get_or (runs ++ fresh run ∷ []) n no_paired_run).opened ≤ length pairs) × (((get_or (runs ++ fresh run ∷ []) n no_paired_run).from ≤ (get_or (runs ++ fresh run ∷ []) n no_paired_run).to) × ((get_or (runs ++ fresh run ∷ []) n no_paired_run).to ≤ length pairs))
-    at n = go (below n (length runs))
-      where
-        below : (a b : ℕ) → (a < b) ⊎ (b ≤ a)
-        below a b = (elim (nat_lt a b) as (λ t. nat_lt a b ≡ t → (a < b) ⊎ (b ≤ a)) [ true ↦ λ e. inl (ltb-true a b e) | false ↦ λ e. inr (ltb-false a b e) ]) refl
-
-        last : length runs ≤ n → (n ≡ length runs) ⊎ (n ≡ length runs → ⊥) → ((get_or (runs ++ fresh run ∷ []) n no_paired_run).opened ≤ length pairs) × (((get_or (runs ++ fresh run ∷ []) n no_paired_run).from ≤ (get_or (runs ++ fresh run ∷ []) n no_paired_run).to) × ((get_or (runs ++ fresh run ∷ []) n no_paired_run).to ≤ length pairs))
-        last h (inl q) = let is = get_or_push runs (fresh run) no_paired_run n (sym q) in (omega (arith, ap (λ (r : PairedRun). r.opened) is), (omega (arith, ap (λ (r : PairedRun). r.from) is), omega (arith, ap (λ (r : PairedRun). r.to) is)))
-        last h (inr q) =
-            let is = get_or_past (runs ++ fresh run ∷ []) n no_paired_run (omega (arith, h, q, length-append runs (fresh run ∷ []))) in
-            (omega (arith, ap (λ (r : PairedRun). r.opened) is), (omega (arith, ap (λ (r : PairedRun). r.from) is), omega (arith, ap (λ (r : PairedRun). r.to) is)))
-
-        go : (n < length runs) ⊎ (length runs ≤ n) → ((get_or (runs ++ fresh run ∷ []) n no_paired_run).opened ≤ length pairs) × (((get_or (runs ++ fresh run ∷ []) n no_paired_run).from ≤ (get_or (runs ++ fresh run ∷ []) n no_paired_run).to) × ((get_or (runs ++ fresh run ∷ []) n no_paired_run).to ≤ length pairs))
-        go (inl h) =
-            let is = get_or_append_left runs (fresh run ∷ []) no_paired_run n h in
-            (omega (arith, ap (λ (r : PairedRun). r.opened) is, c.opened n), (omega (arith, ap (λ (r : PairedRun). r.from) is, ap (λ (r : PairedRun). r.to) is, (c.closed n).0), omega (arith, ap (λ (r : PairedRun). r.to) is, (c.closed n).1)))
-        go (inr h) = last h (nat_split n (length runs))
+chained-push runs pairs run c = search (rules, ltb-true, ltb-false, get_or_push, get_or_past, length-append, get_or_append_left, nat_split)
 
 -- and becomes a segment behind the others
 
@@ -97,11 +80,4 @@ link-made old new front inside tag p high alone =
 
 -- an image that holds a link stands for the same
 pub made-linked : (runs : List PairedRun) (pairs : List Pair) (low : ℕ) (parts : List Part) (inline : Inline) (high : ℕ) → IsMade runs pairs low parts (Finished inline) high → IsMade runs pairs low parts (Linked inline) high
-made-linked runs pairs low parts inline high m = record {
-  means = record { means = m.means.means; writes = record { tags = m.means.writes.tags; alternative = m.means.writes.alternative }; nests = m.means.nests; near = record { bound = m.means.near.bound } };
-  other = refl;
-  marked = m.marked;
-  rising = m.rising;
-  under = m.under;
-  high_is = m.high_is;
-}
+made-linked runs pairs low parts inline high m = search rules

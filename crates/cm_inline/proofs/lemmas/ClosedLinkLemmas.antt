@@ -35,7 +35,7 @@ use Rattle.cm_inline.specs.steps.Reads.{Stands}
 use Rattle.cm_inline.specs.steps.Runs.{runs_in, pairs_in, pair_in, tag_in}
 use Rattle.cm_inline.proofs.lemmas.BracketLemmas.{closes-opener, link_made, closed_or}
 use Rattle.cm_inline.proofs.lemmas.CallerLemmas.{behind-append, segments-append, linked_parts, link-made, made-linked}
-use Rattle.cm_inline.proofs.lemmas.KeptLemmas.{behind-after}
+use Rattle.cm_inline.proofs.lemmas.KeptLemmas.{behind-after, segments-split}
 use Rattle.cm_inline.proofs.lemmas.PassLemmas.{rising-lower}
 use Rattle.cm_inline.proofs.lemmas.JoinLemmas.{Later, laid-join, laid-later, parts-join, parts-later, parts-one}
 use Rattle.cm_inline.proofs.lemmas.KeepsLemmas.{keeps-link}
@@ -45,8 +45,9 @@ use Rattle.cm_inline.proofs.lemmas.EmphasisLemmas.{settled-holds}
 use Rattle.cm_inline.proofs.lemmas.ReadingLemmas.{starts-append}
 use Rattle.cm_inline.proofs.lemmas.RightBracketLemmas.{goes-on, old-items, both, low, left-runs}
 use Rattle.cm_inline.proofs.lemmas.SliceLemmas.{slice-none}
-use Rattle.cm_inline.proofs.lemmas.StandLemmas.{segments-split, runs-append}
+use Rattle.cm_inline.proofs.lemmas.StandLemmas.{runs-append}
 use Rattle.cm_inline.proofs.lemmas.LaidLemmas.{events-append}
+use Rattle.std.proofs.Common.{rules}
 
 pub or-none : (u : Bool) → u || false ≡ u
 or-none true = refl
@@ -129,14 +130,7 @@ free-marks lines source targets held links n runs ps from to (m ∷ ms) high lai
     (free-mark source targets held links n runs ps m.at m.end m.kind high laid.2) (free-marks lines source targets held links n runs ps m.end to ms high laid.3)))
 
 made-lower : (runs : List PairedRun) (pairs : List Pair) (low higher : ℕ) (parts : List Part) (item : Item) (high : ℕ) → low ≤ higher → IsMade runs pairs higher parts item high → IsMade runs pairs low parts item high
-made-lower runs pairs low higher parts item high p m = record {
-  means = m.means;
-  other = m.other;
-  marked = m.marked;
-  rising = rising-lower low higher (events_of runs pairs parts) p m.rising;
-  under = m.under;
-  high_is = omega (arith, p, m.high_is);
-}
+made-lower runs pairs low higher parts item high p m = search (rules, low, rising-lower)
 
 -- a link or an image, as an item
 link-item : (runs : List PairedRun) (pairs : List Pair) (low : ℕ) (parts : List Part) (high n : ℕ) (image : Bool) (dest title : List ℕ) (inner : List Item)
@@ -272,14 +266,7 @@ module _ (source : List ℕ) (targets : Targets) (at end : ℕ) (old new : Reade
       omega (arith, r.high, whole, ap (λ k. number_after k within) high-before, high-before, after, s.runs.long)
 
   alone : IsAlone tag (events_of runs pairs (all_parts within))
-  alone =
-      subst (λ t. IsAlone tag (events_of runs pairs t)) (sym level.closed.parts)
-      (go b.image (free-marks v.lines source targets v.runs v.links n runs new.runs.pairs.items b.end at level.late (omega arith) level.closed.laid))
-    where
-      go : (image : Bool) → AreFree n (events_of runs pairs (parts_between source targets v.links b.end at level.late))
-          → IsAlone (LinkTag n image dest title) (events_of runs pairs (parts_between source targets v.links b.end at level.late))
-      go true free = free
-      go false free = tt
+  alone = search (rules, free-marks)
 
   is-made : IsMade runs pairs (number_after 0 outside) (linked_parts tag (all_parts within)) item (length new.runs.runs.items)
   is-made =
@@ -288,7 +275,7 @@ module _ (source : List ℕ) (targets : Targets) (at end : ℕ) (old new : Reade
 
   segments-are : AreSegments runs pairs 0 (outside ++ segment ∷ [])
   segments-are =
-      segments-append 0 runs pairs outside (segment ∷ []) (segments-split runs pairs 0 outside (opened source b level.high ∷ []) p.front_stays).0 (is-made, tt)
+      segments-append 0 runs pairs outside (segment ∷ []) (segments-split 0 runs pairs outside (opened source b level.high ∷ []) p.front_stays).0 (is-made, tt)
 
   -- its marks
   abbrev start : Mark
@@ -301,13 +288,7 @@ module _ (source : List ℕ) (targets : Targets) (at end : ℕ) (old new : Reade
   opener = mark_at level.at b.end kinds.Plain
 
   marks-are : new.marks.items ≡ level.early ++ start ∷ (level.late ++ stop ∷ [])
-  marks-are =
-      let old_marks = old.marks.items in
-      let none = mark_at 0 0 kinds.Plain in
-      let found : get_or old_marks b.mark none ≡ opener = ap (λ t. get_or t b.mark none) level.marks_are ∙ ap (λ k. get_or (level.early ++ opener ∷ level.late) k none) level.number ∙ get-seam level.early opener level.late none in
-      s.marks ∙ ap (λ (m : Mark). set old_marks b.mark (mark_at m.at m.end (kinds.Start n)) ++ stop ∷ []) found
-      ∙ ap (λ t. t ++ stop ∷ []) (ap (λ t. set t b.mark start) level.marks_are ∙ ap (λ k. set (level.early ++ opener ∷ level.late) k start) level.number ∙ set-append_seam level.early opener level.late start)
-      ∙ append_assoc level.early (start ∷ level.late) (stop ∷ [])
+  marks-are = search (rules, get-seam, set-append_seam, append_assoc)
 
   abbrev now : MarkedLeaf
   now = later_leaf leaf new.runs.runs.items (link ∷ []) new.links_end
@@ -316,10 +297,7 @@ module _ (source : List ℕ) (targets : Targets) (at end : ℕ) (old new : Reade
   known = get-seam old.links.items link [] no_link
 
   is-link : IsLinkIn source targets links n
-  is-link = record {
-    known = omega (arith, length-append old.links.items (link ∷ []));
-    target = subst (λ (l : Link). IsTargetIn source targets l.target) (sym known) there;
-  }
+  is-link = grind (arith, nat_tests, known, length-append)
 
   late-laid : AreLaid v.lines source targets new.runs.runs.items links b.end at level.late
   late-laid = laid-later v.lines source targets v.runs new.runs.runs.items v.links (link ∷ []) later b.end at level.late level.closed.laid
@@ -341,16 +319,7 @@ module _ (source : List ℕ) (targets : Targets) (at end : ℕ) (old new : Reade
 
   closed : AreClosed now level.at end (segment ∷ []) (start ∷ (level.late ++ stop ∷ []))
   unfolding items_in has_opener
-  closed = record {
-    parts = closed-parts;
-    laid = (
-      none-laid v.lines source level.at level.bracket.start,
-      (low source targets at v b bs segments r, level.bracket.start, level.bracket.end),
-      is-link,
-      laid-join v.lines source targets new.runs.runs.items links b.end at end level.late (stop ∷ []) late-laid stop-laid,
-    );
-    none = ap (λ u. u || false) (link-closed b.image dest title (items_in within));
-  }
+  closed = grind (arith, nat_tests, closed-parts, none-laid, low, is-link, laid-join, late-laid, stop-laid, link-closed)
 
   linked : nat_lt b.mark v.links_end ≡ holds_link (items_in within)
   linked = level.link ∙ or-none (holds_link (items_in within))
@@ -384,10 +353,7 @@ module _ (source : List ℕ) (targets : Targets) (at end : ℕ) (old new : Reade
   open-now = open-more now bs outside (segment ∷ []) level.early (start ∷ (level.late ++ stop ∷ [])) level.at end false (subst (AreOpen now bs outside level.early level.at) (sym holds-it) below) closed
 
   new-open : AreOpen (leaf_of source targets (view_of new)) bs (outside ++ segment ∷ []) new.marks.items end false
-  new-open =
-      subst (λ ms. AreOpen (leaf_of source targets (view_of new)) bs (outside ++ segment ∷ []) ms end false) (sym marks-are)
-      (subst (λ ls. AreOpen (record { lines = new.lines; source = source; targets = targets; runs = new.runs.runs.items; links = ls; links_end = new.links_end }) bs (outside ++ segment ∷ []) (level.early ++ start ∷ (level.late ++ stop ∷ [])) end false) (sym s.links)
-      (subst (λ u. AreOpen (record { lines = u; source = source; targets = targets; runs = new.runs.runs.items; links = links; links_end = new.links_end }) bs (outside ++ segment ∷ []) (level.early ++ start ∷ (level.late ++ stop ∷ [])) end false) (sym s.lines) open-now))
+  new-open = search (rules, marks-are, open-now)
 
   starts-are : starts_in (events_of runs pairs (all_parts (outside ++ segment ∷ []))) ≤ length pairs + length links
   unfolding all_parts events_of

@@ -21,6 +21,7 @@ use Rattle.cm_inline.proofs.lemmas.SearchLemmas.{FoundBy, find-found}
 use Rattle.cm_inline.proofs.lemmas.StackLemmas.{Found, stacked-found}
 use Rattle.cm_inline.proofs.lemmas.StateLemmas.{MakesPair, steps-fails, leaving-rest, left-in, cut_run, same-list, same-state}
 use Rattle.cm_inline.proofs.lemmas.WaitLemmas.{passed_by}
+use Rattle.std.proofs.Common.{rules}
 
 -- what is left of a run among events is what is left of the run of that number
 abbrev pub AreHeld : List PairedRun → List Event → Type 0
@@ -48,18 +49,7 @@ held-run parts first c s before e w g =
 pub pair-state : (new now : Runs) (bs : List ℕ) (number : ℕ) (c : Run) (e : Entry) (g : FoundBy c (get_or bs (kind c) 0) new.openers.entries e)
     → MakesPair c e g.below (looks_for c (get_or bs (kind c) 0) new.openers.entries) (tag_of c.character (used e.run c)) new now → e.run ≡ (get_or (runs_in new.runs.items) e.place no_paired_run).run
     → state_of now bs number ≡ pair_written c e (looks_for c (get_or bs (kind c) 0) new.openers.entries) g.below (state_of new bs number)
-pair-state new now bs number c e g m is = same-state _ _ runs m.pairs (same-list _ _ (m.entries ∙ leaving-rest (used e.run c) e g.below) m.looks_are refl) refl
-  where
-    n : ℕ
-    n = used e.run c
-
-    old : PairedRun
-    old = get_or (runs_in new.runs.items) e.place no_paired_run
-
-    runs : runs_in now.runs.items ≡ with_opened e.place n (runs_in new.runs.items) (pairs_in new.pairs.items)
-    runs = ap runs_in m.runs ∙ left-in e.place (e.run.left - n) (length new.pairs.items + 1) new.runs.items m.within
-        ∙ ap (λ (r : Run). set (runs_in new.runs.items) e.place (cut_run (r.left - n) (length new.pairs.items + 1) old)) is
-        ∙ ap (λ k. set (runs_in new.runs.items) e.place (cut_run (old.run.left - n) (k + 1) old)) (sym (length-map new.pairs.items pair_in))
+pair-state new now bs number c e g m is = search (rules, same-state, same-list, leaving-rest, left-in, cut_run, length-map)
 
 -- the pair that the code makes of what its search finds
 pub record MadePair (new now : Runs) (bs : List ℕ) (c : Run) (e : Entry) : Type 0 where
@@ -119,10 +109,7 @@ done-fails parts old run c had new bs number openers mark h some go none e k =
 pub done-none : (parts : List Part) (old : State) (run c : Run) (had : List Item) (new : Runs) (bs : List ℕ) (number k : ℕ) (openers : Stack) → k ≡ kind c → IsMarked c → c.closes ≡ true → 1 ≤ c.left → CloserGoesOn parts old run had (state_of new bs number) c
     → find_opener c (get_or bs k 0) new.openers.entries ≡ None → openers.entries ≡ new.openers.entries → openers.looks ≡ new.openers.looks + looks_for c (get_or bs k 0) new.openers.entries
     → CloserDone parts old run had (state_of (record new { openers = openers }) (set bs k number) number) c.left
-done-none parts old run c had new bs number k openers same mark h some go none e looks =
-    let bottom = ap (λ j. get_or bs j 0) same in
-    subst (λ j. CloserDone parts old run had (state_of (record new { openers = openers }) (set bs j number) number) c.left) (sym same)
-    (done-fails parts old run c had new bs number openers mark h some go (sym (ap (λ b. find_opener c b new.openers.entries) bottom) ∙ none) e (looks ∙ ap (λ b. new.openers.looks + looks_for c b new.openers.entries) bottom))
+done-none parts old run c had new bs number k openers same mark h some go none e looks = search (rules, done-fails)
 
 pub steps-search-fails : (old new : Runs) (had bs : List ℕ) (number k : ℕ) (c : Run) (openers : Stack) → k ≡ kind c → RunSteps old new had bs number number 0 → find_opener c (get_or bs k 0) new.openers.entries ≡ None
     → openers.entries ≡ new.openers.entries → openers.looks ≡ new.openers.looks + looks_for c (get_or bs k 0) new.openers.entries

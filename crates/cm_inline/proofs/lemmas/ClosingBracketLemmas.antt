@@ -35,6 +35,7 @@ use Rattle.cm_inline.proofs.lemmas.PaysLemmas.{pays-few}
 use Rattle.cm_inline.proofs.lemmas.RightBracketLemmas.{old-items}
 use Rattle.cm_inline.proofs.lemmas.WholeLemmas.{closed-deeper, nests-ahead}
 use Rattle.cm_inline.proofs.lemmas.InlineDepthLemmas.{both}
+use Rattle.std.proofs.Common.{rules}
 
 -- a `[` before the place behind an opener
 pub left-bracket : (source : List ℕ) (image : Bool) (at behind : ℕ) → IsOpener source image at behind → (0 < behind) × (get_or source (behind - 1) 0 ≡ 91)
@@ -81,23 +82,7 @@ waiting-pay low runs pairs (Made parts item high ∷ ss) h = omega (arith, sum_b
 
 -- so that pairs can be made of those behind a front
 pub can-pass : (from : ℕ) (runs : Runs) (front inside : List Segment) → WaitFrom from runs front inside → runs.openers.looks + allowance all_kinds (items_in (front ++ inside)) < 2 ^ 127 → CanPass from runs
-can-pass from runs front inside a few = record {
-  long = omega (arith, ap length a.waiting, length-append (numbers_in front) (numbers_in inside), a.place);
-  numbers = subst (AreNumbers 0 (length runs.runs.items)) (sym whole) (waiting-rise 0 runs.runs.items (pairs_in runs.pairs.items) (front ++ inside) a.segments);
-  few = omega (arith, few, behind, all, waiting-pay 0 runs.runs.items (pairs_in runs.pairs.items) (front ++ inside) a.segments);
-}
-  where
-    whole : runs.waiting.items ≡ numbers_in (front ++ inside)
-    whole = a.waiting ∙ sym (numbers-append front inside)
-
-    pays : ℕ → ℕ
-    pays number = all_kinds + 1 + (run_at runs.runs.items number).run.left
-
-    behind : paid_by runs.runs.items (drop from runs.waiting.items) ≡ paid_by runs.runs.items (numbers_in inside)
-    behind = ap (λ t. paid_by runs.runs.items (drop from t)) a.waiting ∙ ap (λ n. paid_by runs.runs.items (drop n (numbers_in front ++ numbers_in inside))) (sym a.place) ∙ ap (paid_by runs.runs.items) (drop-append_seam (numbers_in front) (numbers_in inside))
-
-    all : paid_by runs.runs.items (numbers_in (front ++ inside)) ≡ paid_by runs.runs.items (numbers_in front) + paid_by runs.runs.items (numbers_in inside)
-    all = ap (paid_by runs.runs.items) (numbers-append front inside) ∙ sum_by-append pays (numbers_in front) (numbers_in inside)
+can-pass from runs front inside a few = search (rules, inside, length-append, waiting-rise, waiting-pay, numbers-append, drop-append_seam, sum_by-append)
 
 -- the last open bracket of a reader, whose brackets are the others
 pub last-read : (source : List ℕ) (targets : Targets) (at : ℕ) (was old : Reader) (others : List Bracket) (b : Bracket) (segments : List Segment) → was.brackets.items ≡ others ++ b ∷ [] → view_of old ≡ view_of was

@@ -28,6 +28,7 @@ use Rattle.cm_inline.proofs.lemmas.ReadingLemmas.{starts-append}
 use Rattle.cm_inline.proofs.lemmas.StackLemmas.{pair_events}
 use Rattle.cm_inline.proofs.lemmas.WaitLemmas.{Pairs, after_pair, waits-pairs, Fails, with_looks, waits-fails, passed_by, waits-opener, waits-text, waits-gone}
 use Rattle.cm_inline.proofs.lemmas.LaidLemmas.{events-append}
+use Rattle.std.proofs.Common.{rules}
 
 -- the numbers stay
 rising-put : (low number count n : ℕ) (tag : Tag) (r : Run) (fs : List Event) → low ≤ n → Rising (suc n) fs → Rising low (opened_event number count tag (Rest n r) ++ fs)
@@ -58,22 +59,7 @@ rising-front low (_ ∷ fs) gs h = rising-front low fs gs h
 -- parts stay well made
 run-kept : (number count n : ℕ) (tag : Tag) (runs : List PairedRun) (pairs : List Pair) → n < length runs → (get_or runs n no_run).opened ≤ length pairs → (get_or runs n no_run).to ≤ length pairs
     → ((get_or (with_opened number count runs pairs) n no_run).opened ≤ length (with_pair tag number runs pairs)) × ((get_or (with_opened number count runs pairs) n no_run).to ≤ length (with_pair tag number runs pairs))
-run-kept number count n tag runs pairs within opened to = go (nat_split n number)
-  where
-    old : PairedRun
-    old = get_or runs number no_run
-
-    now : PairedRun
-    now = record { run = taken count old.run; opened = length pairs + 1; from = old.from; to = old.to }
-
-    long : length (with_pair tag number runs pairs) ≡ length pairs + 1
-    long = length-append pairs (record { tag = tag; before = old.opened } ∷ [])
-
-    go : (n ≡ number) ⊎ (n ≡ number → ⊥) → ((get_or (set runs number now) n no_run).opened ≤ length (with_pair tag number runs pairs)) × ((get_or (set runs number now) n no_run).to ≤ length (with_pair tag number runs pairs))
-    go (inr q) = let is = get_or-set_other runs number n now no_run q in (omega (arith, ap (λ (p : PairedRun). p.opened) is, opened, long), omega (arith, ap (λ (p : PairedRun). p.to) is, to, long))
-    go (inl q) =
-        let is = ap (λ k. get_or (set runs number now) k no_run) q ∙ get_or-set_same runs number now no_run (omega (arith, within, q)) in
-        (omega (arith, ap (λ (p : PairedRun). p.opened) is, long), omega (arith, ap (λ (p : PairedRun). p.to) is, ap (λ k. (get_or runs k no_run).to) q, to, long))
+run-kept number count n tag runs pairs within opened to = search (rules, nat_split, length-append, get_or-set_other, get_or-set_same)
 
 pub parts-kept : (number count : ℕ) (tag : Tag) (runs : List PairedRun) (pairs : List Pair) (parts : List Part) → AreParts runs pairs parts → AreParts (with_opened number count runs pairs) (with_pair tag number runs pairs) parts
 parts-kept number count tag runs pairs [] h = tt
@@ -143,9 +129,7 @@ unfolding kind
 same-kind left run c e = ap kind e
 
 last-made : (found : Opened) (c : Run) → last_depth (reverse (up_to_pair found c)) ≡ items_depth found.inside + 1
-last-made found c =
-    let n = used found.opener c in
-    ap last_depth (reverse-append (found.before ++ without n found.opener) (Finished (emphasised c.character n (settled found.inside)) ∷ [])) ∙ emphasised-depth c.character n (settled found.inside) ∙ ap (λ d. d + 1) (settled-items found.inside)
+last-made found c = search (rules, reverse-append, emphasised-depth, settled-items)
 
 -- a pair that leaves something of the closer
 pub closing-further : (parts : List Part) (old : State) (run c rest : Run) (had : List Item) (s : State) (e : Entry) → c.closes ≡ true → CloserGoesOn parts old run had s c → (g : FoundBy c (get_or s.bottoms (kind c) 0) s.list.entries e)
@@ -334,25 +318,7 @@ pub put-other : (parts : List Part) (s : State) (number : ℕ) (run : Run) (had 
     → PartAdded parts s run had s number run.left
 unfolding events_of
 put-other parts s number run had within at is other some w =
-    let under = subst (λ n. AreUnder n parts) (sym at) w.under in
-    record {
-      events = so_far parts (length s.pairs) s;
-      before = had;
-      rest = Delimiters run ∷ [];
-      waits = w.waits;
-      whole = ap (λ t. events_of s.runs s.pairs (parts ++ Numbered number ∷ []) ++ ends t) (drop-all s.pairs) ∙ append-nil (events_of s.runs s.pairs (parts ++ Numbered number ∷ []))
-          ∙ events-append s.runs s.pairs parts (Numbered number ∷ [])
-          ∙ ap (λ t. events_of s.runs s.pairs parts ++ t) (append-nil (run_events s.pairs number (get_or s.runs number no_run)) ∙ ap (run_events s.pairs number) is ∙ ap (λ t. Rest number run ∷ t) (chain-zero (reverse s.pairs)))
-          ∙ ap (λ t. t ++ Rest number run ∷ []) (sym (ap (λ t. events_of s.runs s.pairs parts ++ ends t) (drop-all s.pairs) ∙ append-nil (events_of s.runs s.pairs parts)));
-      marked = parts-append s.runs s.pairs parts (Numbered number ∷ []) w.marked (within, omega (arith, ap (λ (p : PairedRun). p.opened) is), omega (arith, ap (λ (p : PairedRun). p.to) is), tt);
-      under = under;
-      rising = rising-behind 0 number run (so_far parts (length s.pairs) s) w.rising (omega arith) (low-so-far number (length s.pairs) s parts under w.marked);
-      goes = sym (pass-other had run other);
-      rest_is = sym (cond-false (nat_le run.left 0) [] (Delimiters run ∷ []) (not-none run.left some));
-      paid = λ kinds known. omega arith;
-      made = omega arith;
-      starts = omega (arith, so-far-starts parts (length s.pairs) s);
-    }
+    search (rules, drop-all, append-nil, events-append, chain-zero, parts-append, rising-behind, low-so-far, pass-other, cond-false, not-none, so-far-starts)
 
 -- The pass goes on, and the list is as waits-opener, waits-text or waits-gone has it.
 pub next-put : (parts : List Part) (old : State) (run : Run) (had : List Item) (s : State) (number left : ℕ) (list : Listed) (after : List Item) → (p : PartAdded parts old run had s number left) → list.next ≡ number + 1 → after ≡ passed had (Delimiters run)

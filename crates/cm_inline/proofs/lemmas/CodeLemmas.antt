@@ -6,6 +6,7 @@ use Rattle.std.proofs.lemmas.List.{take-take, drop-drop, length-take-le, get_or-
 use Rattle.memchr.specs.Find.{is_byte, Passes, Nowhere}
 use Rattle.cm_scan.specs.spans.Autolinks.{ends_with}
 use Rattle.cm_scan.specs.spans.CodeSpans.{one_line, but_last, stripped}
+use Rattle.std.proofs.Common.{rules}
 
 abbrev pub is_space : ℕ → Bool
 is_space b = b == 32 || b == 10
@@ -35,13 +36,7 @@ but_last-is b (c ∷ cs) = ap (λ t. cond (b == 10) 32 b ∷ t) (but_last-is c c
 stripped-is : (b : ℕ) (bs : List ℕ) (first last all : Bool) → is_space b ≡ first → is_space (get_or (b ∷ bs) (length bs) 0) ≡ last → list_all is_space (b ∷ bs) ≡ all
     → stripped (one_line (b ∷ bs)) ≡ cond (first && last && not all) (but_last (one_line bs)) (one_line (b ∷ bs))
 unfolding stripped
-stripped-is b bs first last all f l a =
-    ap (λ v. by v (ends_with 32 (one_line (b ∷ bs))) (list_all (λ c. c == 32) (one_line (b ∷ bs)))) (space-is b ∙ f)
-    ∙ ap (λ v. by first v (list_all (λ c. c == 32) (one_line (b ∷ bs)))) (last-is b bs ∙ l)
-    ∙ ap (by first last) (all-is (b ∷ bs) ∙ a)
-  where
-    by : Bool → Bool → Bool → List ℕ
-    by x y z = cond (x && y && not z) (but_last (one_line bs)) (one_line (b ∷ bs))
+stripped-is b bs first last all f l a = search (rules, space-is, last-is, all-is)
 
 -- the last byte by its place
 last-place : (b : ℕ) (bs : List ℕ) → get_or (b ∷ bs) (length (b ∷ bs) - 1) 0 ≡ get_or (b ∷ bs) (length bs) 0
@@ -126,22 +121,13 @@ inner (suc n) (b ∷ bs) = let less : suc n - 1 - 1 ≤ n = omega arith in take-
 
 -- its length and its ends
 pub part-length : (bs : List ℕ) (from to : ℕ) → from ≤ to → to ≤ length bs → length (slice_range bs from to) ≡ to - from
-part-length bs from to low high =
-    let fits : to - from ≤ length (drop from bs) = omega (arith, length-drop from bs, high, low) in
-    length-take-le (to - from) (drop from bs) fits
+part-length bs from to low high = search (rules, length-drop, length-take-le)
 
 pub part-first : (bs : List ℕ) (from to : ℕ) → 1 ≤ to - from → get_or (slice_range bs from to) 0 0 ≡ get_or bs from 0
-part-first bs from to some =
-    let less : 0 < to - from = omega (arith, some) in
-    let place : from + 0 ≡ from = omega arith in
-    get_or-take (to - from) (drop from bs) 0 0 less ∙ get_or-drop from bs 0 0 ∙ ap (λ n. get_or bs n 0) place
+part-first bs from to some = search (rules, get_or-take, get_or-drop)
 
 pub part-last : (bs : List ℕ) (from to : ℕ) → from ≤ to → to ≤ length bs → 1 ≤ to - from → get_or (slice_range bs from to) (length (slice_range bs from to) - 1) 0 ≡ get_or bs (to - 1) 0
-part-last bs from to low high some =
-    let last : to - from - 1 < to - from = omega (arith, some) in
-    let place : from + (to - from - 1) ≡ to - 1 = omega (arith, some) in
-    ap (λ n. get_or (slice_range bs from to) (n - 1) 0) (part-length bs from to low high) ∙ get_or-take (to - from) (drop from bs) (to - from - 1) 0 last
-    ∙ get_or-drop from bs (to - from - 1) 0 ∙ ap (λ n. get_or bs n 0) place
+part-last bs from to low high some = search (rules, part-length, get_or-take, get_or-drop)
 
 pub inner-is : (bs : List ℕ) (from to : ℕ) → from ≤ to → to ≤ length bs → slice_range (slice_range bs from to) 1 (length (slice_range bs from to) - 1) ≡ slice_range bs (from + 1) (to - 1)
 inner-is bs from to low high =

@@ -19,6 +19,7 @@ use Rattle.cm_inline.specs.declared.fault.InlineFault.{InlineFault}
 use Rattle.cm_inline.specs.steps.Depths.{item_depth, items_depth}
 use Rattle.cm_inline.proofs.lemmas.PairDepthLemmas.{reverse-depth, settled-items, pass-deeper}
 use Rattle.cm_inline.proofs.lemmas.InlineDepthLemmas.{both}
+use Rattle.std.proofs.lemmas.Bool.Decides.{nat_tests}
 
 abbrev fault_or : {A : Type 0} → InlineFault → Result A InlineFault → InlineFault
 fault_or f (Ok x) = f
@@ -80,18 +81,7 @@ texts-depth found = omega (arith, both (reverse found.inside) (Characters (brack
 
 by_bracket-deeper : (rules : Rules) (defined : Defined) (found : OpenerFound) (rest : List ℕ) → max (items_depth found.before) (items_depth found.inside) ≤ items_depth (closed_by_bracket rules defined found rest).items
 unfolding closed_by_bracket
-by_bracket-deeper rules defined found rest = go (not found.image && holds_link found.inside) (end_at rules defined (source_up_to found.source (93 ∷ rest)) rest)
-  where
-    as_text : Bracketed
-    as_text = record { items = brackets_are_text found; rest = rest }
-
-    go : (barred : Bool) (o : Option LinkEnd) → max (items_depth found.before) (items_depth found.inside) ≤ items_depth (elim barred as (λ _. Bracketed) [
-      | true ↦ as_text
-      | false ↦ elim o as (λ _. Bracketed) [ Some end ↦ record { items = made found.image end.dest end.title found.inside ∷ found.before; rest = end.rest } | None ↦ as_text ]
-    ]).items
-    go true o = omega (arith, texts-depth found)
-    go false None = omega (arith, texts-depth found)
-    go false (Some end) = omega (arith, made-deeper found.image end.dest end.title found.inside)
+by_bracket-deeper rules defined found rest = grind (arith, nat_tests, texts-depth, made-deeper)
 
 pub bracket-deeper : (rules : Rules) (defined : Defined) (items : List Item) (rest : List ℕ) → items_depth items ≤ items_depth (close_bracket rules defined items rest).items
 unfolding close_bracket

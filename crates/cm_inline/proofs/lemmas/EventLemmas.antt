@@ -6,6 +6,7 @@ use Rattle.cm_tree.specs.declared.tree.Inline.TheVariants.{Emph, Strong, Strike}
 use Rattle.cm_scan.specs.inlines.Delimiters.{Run}
 use Rattle.cm_scan.specs.inlines.Pairing.{Item, Characters, Finished, Linked, Delimiters, Opener, text_before, settled, settled_after, emphasised}
 use Rattle.cm_inline.specs.steps.pairing.Events.{Event, Rest, Tag, Emphasis, StrongEmphasis, Strikethrough, Start, End, Built, made_of, tag_of, ended, innermost, others, add_text, build_one, build, leaf, leaves, Means, nothing_built, inlines_of}
+use Rattle.std.proofs.Common.{rules}
 
 pub build-append : (m : Built) (fs gs : List Event) → build m (fs ++ gs) ≡ build (build m fs) gs
 unfolding build
@@ -39,9 +40,7 @@ leaves-outer (Delimiters r ∷ items) m = leaves-outer items (build_one m (leaf 
 leaves-outer (Opener b s ∷ items) m = leaves-outer items (build_one m (leaf (Opener b s)))
 
 behind : (content more : List Inline) (text : List ℕ) (i : Inline) → (content ++ text_before text (i ∷ [])) ++ more ≡ content ++ text_before text (i ∷ more)
-behind content more text i =
-    ap (λ t. (content ++ t) ++ more) (text-split text (i ∷ [])) ∙ append_assoc content (text_before text [] ++ i ∷ []) more
-    ∙ ap (λ t. content ++ t) (append_assoc (text_before text []) (i ∷ []) more ∙ sym (text-split text (i ∷ more)))
+behind content more text i = search (rules, text-split, append_assoc)
 
 pub leaves-settle : (items : List Item) (m : Built) → ended (build m (leaves items)) ≡ m.content ++ settled_after m.text items
 unfolding build settled_after
@@ -55,10 +54,7 @@ leaves-settle (Opener b s ∷ items) m = leaves-settle items (build_one m (leaf 
 -- a run of which nothing is left stands for nothing
 pub means-empty : (number : ℕ) (r : Run) → r.left ≡ zero → Means (Rest number r ∷ []) []
 unfolding build
-means-empty number r e m = ap (λ n. add_text m (replicate n r.character)) e ∙ ap (λ t. text t) (append-nil m.text)
-  where
-    text : List ℕ → Built
-    text t = record { content = m.content; text = t; outer = m.outer }
+means-empty number r e m = search rules
 
 -- a start and an end
 pub means-wrap : (fs : List Event) (inside : List Item) (tag : Tag) → Means fs inside → Means (Start tag ∷ fs ++ End tag ∷ []) (Finished (made_of tag (settled inside)) ∷ [])
@@ -78,12 +74,7 @@ means-wrap fs inside tag h m =
     made c = record { content = c; text = []; outer = m.outer }
 
 pub tag-makes : (character count : ℕ) (content : List Inline) → made_of (tag_of character count) content ≡ emphasised character count content
-tag-makes character count content = go (character == 126) (count == 2)
-  where
-    go : (b d : Bool) → made_of (cond b Strikethrough (cond d StrongEmphasis Emphasis)) content ≡ cond b (Strike content) (cond d (Strong content) (Emph content))
-    go true d = refl
-    go false true = refl
-    go false false = refl
+tag-makes character count content = search rules
 
 pub means-settles : (fs : List Event) (items : List Item) → Means fs items → inlines_of fs ≡ settled items
 means-settles fs items h = ap ended (h nothing_built) ∙ leaves-settle items nothing_built

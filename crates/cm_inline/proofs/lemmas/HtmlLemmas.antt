@@ -10,6 +10,7 @@ use Rattle.cm_inline.specs.declared.delimiter_runs.Marker.{Marker}
 use Rattle.cm_inline.specs.declared.delimiter_runs.Marker.TheVariants.{Star, Underscore, Tilde}
 use Rattle.cm_inline.specs.steps.Marks.{stays_text}
 use Rattle.cm_inline.specs.steps.Runs.{byte_of}
+use Rattle.std.proofs.Common.{rules}
 
 -- the text of a run is its own HTML
 pub run-html : (marker : Marker) (n : ℕ) → escape (replicate n (byte_of marker)) ≡ replicate n (byte_of marker)
@@ -26,21 +27,11 @@ run-next done b left counter below =
 
 -- a line, with the space for its line feed
 pub line-html : (html line rest whole : List ℕ) → line ++ 32 ∷ one_line rest ≡ whole → ((html ++ escape line) ++ 32 ∷ []) ++ escape (one_line rest) ≡ html ++ escape whole
-line-html html line rest whole e =
-    append_assoc (html ++ escape line) (32 ∷ []) (escape (one_line rest)) ∙ append_assoc html (escape line) (32 ∷ escape (one_line rest))
-    ∙ ap (λ t. html ++ t) (sym (flat_map-append escape_byte line (32 ∷ one_line rest)) ∙ ap escape e)
+line-html html line rest whole e = search (rules, append_assoc, flat_map-append)
 
 -- a byte of text is its own HTML
 pub byte-html : (b : ℕ) → stays_text false b ≡ true → escape_byte b ≡ b ∷ []
-byte-html b h = go (b == 38) (b == 60) (b == 62) (b == 34) (and_parts (not (b == 38 || b == 60 || b == 62 || b == 34)) (not false) h).0
-  where
-    go : (p q r s : Bool) → not (p || q || r || s) ≡ true
-        → cond p (38 ∷ 97 ∷ 109 ∷ 112 ∷ 59 ∷ []) (cond q (38 ∷ 108 ∷ 116 ∷ 59 ∷ []) (cond r (38 ∷ 103 ∷ 116 ∷ 59 ∷ []) (cond s (38 ∷ 113 ∷ 117 ∷ 111 ∷ 116 ∷ 59 ∷ []) (b ∷ [])))) ≡ b ∷ []
-    go true q r s e = absurd (cc e)
-    go false true r s e = absurd (cc e)
-    go false false true s e = absurd (cc e)
-    go false false false true e = absurd (cc e)
-    go false false false false e = refl
+byte-html b h = search rules
 
 pub text-html : (text : List ℕ) → list_all (stays_text false) text ≡ true → escape text ≡ text
 text-html [] h = refl

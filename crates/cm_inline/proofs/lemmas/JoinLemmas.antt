@@ -15,6 +15,7 @@ use Rattle.cm_inline.specs.steps.pairing.States.{run_at}
 use Rattle.cm_inline.specs.steps.Marks.{part_of, part_of_kind, texts, text_part, parts_between, stays_text, no_link, IsUnmarked, IsTargetIn, IsLinkIn, IsOfKind, AreLaid, link_tag}
 use Rattle.cm_inline.specs.steps.Runs.{byte_of}
 use Rattle.cm_inline.proofs.lemmas.SliceLemmas.{slice-both, slice-none}
+use Rattle.std.proofs.Common.{rules}
 
 -- text between three places
 texts-both : (source : List ℕ) (from to end : ℕ) → from ≤ to → to ≤ end → texts (slice_range source from end) ≡ texts (slice_range source from to) ++ texts (slice_range source to end)
@@ -69,9 +70,7 @@ abbrev pub Later : List HeldRun → List HeldRun → Type 0
 Later old new = (number : ℕ) → number < length old → (number < length new) × ((run_at new number).run.marker ≡ (run_at old number).run.marker) × ((run_at new number).run.whole ≡ (run_at old number).run.whole)
 
 pub later-more : (runs more : List HeldRun) → Later runs (runs ++ more)
-later-more runs more number h =
-    let same = get_or_append_left runs more _ number h in
-    (omega (arith, h, length-append runs more), ap (λ (r : HeldRun). r.run.marker) same, ap (λ (r : HeldRun). r.run.whole) same)
+later-more runs more number h = search (rules, get_or_append_left, length-append)
 
 module _ (lines : Bool) (source : List ℕ) (targets : Targets) (runs now : List HeldRun) (links more : List Link) (later : Later runs now) where
   link-later : (number : ℕ) → IsLinkIn source targets links number → IsLinkIn source targets (links ++ more) number

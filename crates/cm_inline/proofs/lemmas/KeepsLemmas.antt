@@ -8,6 +8,8 @@ use Rattle.cm_inline.specs.Emphases.{emphases}
 use Rattle.cm_inline.specs.steps.Pairs.{IsOf, AreLooks, Keeps, allowed, allowance}
 use Rattle.cm_inline.proofs.lemmas.EmphasisLemmas.{both-hold, made-holds}
 use Rattle.cm_inline.proofs.lemmas.AllowanceLemmas.{of-append, of-split, allowance-both, allowance-one}
+use Rattle.std.proofs.Common.{rules}
+use Rattle.std.proofs.lemmas.Bool.Decides.{nat_tests}
 
 made-free : (kinds : ℕ) (image : Bool) (dest title : List ℕ) (inside : List Item) → IsOf kinds (made image dest title inside) × (allowed kinds (made image dest title inside) ≡ 0)
 made-free kinds false dest title inside = (tt, refl)
@@ -68,8 +70,5 @@ module _ (looks : ℕ) (outside inside : List Item) (image : Bool) (behind : Lis
 
 -- a `]` without a bracket
 pub keeps-closer : (looks : ℕ) (items : List Item) (text : List ℕ) → Keeps looks items looks (items ++ Characters text ∷ [])
-keeps-closer looks items text = record {
-  are = λ kinds is. of-append kinds items (Characters text ∷ []) is (tt, tt);
-  paid = λ kinds is. omega (arith, allowance-both kinds items (Characters text ∷ []), allowance-one kinds (Characters text));
-  made = omega (arith, both-hold items (Characters text ∷ []));
-}
+keeps-closer looks items text =
+    first_of (search (rules, of-append, allowance-both, allowance-one, both-hold), grind (arith, nat_tests, of-append, allowance-both, allowance-one, both-hold))

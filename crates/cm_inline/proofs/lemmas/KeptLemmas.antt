@@ -11,6 +11,7 @@ use Rattle.cm_inline.specs.steps.pairing.States.{Grows}
 use Rattle.cm_inline.proofs.lemmas.ClosingLemmas.{parts-append}
 use Rattle.cm_inline.proofs.lemmas.PartLemmas.{ends-none, chain-none, chain-stays, rising-once, AreSuch, AllOf, such-parts, under-all}
 use Rattle.cm_inline.proofs.lemmas.PassLemmas.{rising-behind-of}
+use Rattle.std.proofs.Common.{rules}
 
 -- the numbers of segments are such
 abbrev pub AllIn : (ℕ → Type 0) → List Segment → Type 0
@@ -34,9 +35,7 @@ chain-more [] ps n h = refl
 chain-more (q ∷ qs) ps n h = chain-stays q (qs ++ ps) n (omega (arith, h, length-append qs ps)) ∙ chain-more qs ps n h
 
 run-kept : (pairs added : List Pair) (k : ℕ) (r : PairedRun) → r.opened ≤ length pairs → r.to ≤ length pairs → run_events (pairs ++ added) k r ≡ run_events pairs k r
-run-kept pairs added k r opened to =
-    ap (λ t. ends (drop r.from t) ++ Rest k r.run ∷ starts (pairs ++ added) r.opened) (take-append-le r.to pairs added to)
-    ∙ ap (λ t. ends_between pairs r.from r.to ++ Rest k r.run ∷ t) (ap (λ t. chain t r.opened) (reverse-append pairs added) ∙ chain-more (reverse added) (reverse pairs) r.opened (omega (arith, opened, length-reverse pairs)))
+run-kept pairs added k r opened to = search (rules, take-append-le, reverse-append, chain-more, length-reverse)
 
 pub events-kept : (P : ℕ → Type 0) (runs now : List PairedRun) (pairs added : List Pair) (ms : List Part) → ((k : ℕ) → P k → get_or now k no_run ≡ get_or runs k no_run) → AllOf P ms → AreParts runs pairs ms → events_of now (pairs ++ added) ms ≡ events_of runs pairs ms
 unfolding events_of
@@ -74,7 +73,7 @@ segments-grow P low high from old new ss g out a h =
 
 -- and so do their events
 
-segments-parts : (low : ℕ) (runs : List PairedRun) (pairs : List Pair) (ss : List Segment) → AreSegments runs pairs low ss → AreParts runs pairs (all_parts ss)
+pub segments-parts : (low : ℕ) (runs : List PairedRun) (pairs : List Pair) (ss : List Segment) → AreSegments runs pairs low ss → AreParts runs pairs (all_parts ss)
 unfolding all_parts
 segments-parts low runs pairs [] h = tt
 segments-parts low runs pairs (Waiting k run ∷ ss) h =

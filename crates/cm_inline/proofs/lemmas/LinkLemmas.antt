@@ -198,10 +198,6 @@ module _ (rules : Rules) (leaf : Leaf) (end : ℕ) where
       → ends_of leaf (by_number entry) ≡ end_if_followed rules (leads_to target (drop end leaf.source.now))
   numbered-end target entry h = number-leads entry ∙ ap (λ o. leads_to o (drop end leaf.source.now)) h ∙ leads-followed target (drop end leaf.source.now)
 
-  pub numbered-placed : (entry : Option ℕ) → IsCharBoundary leaf.source.now end → IfSome entry (λ number. number < length leaf.definitions.now) → IfSome (by_number entry) (IsPlaced leaf)
-  numbered-placed None boundary within = tt
-  numbered-placed (Some number) boundary within = (boundary, within)
-
 -- The whole
 
 -- the result of a scanner that may have found nothing

@@ -30,6 +30,7 @@ use Rattle.cm_inline.specs.steps.Standalone.{autolink, autolink_html}
 use Rattle.cm_inline.specs.steps.Writing.{Adds, mark_events, mode_after, is_end_of, IsNumbered, IsLinked, IsMarkIn}
 use Rattle.cm_inline.proofs.lemmas.HtmlLemmas.{run-html, text-html}
 use Rattle.cm_inline.proofs.lemmas.WriteLemmas.{write-append, soft-html, soft-plain}
+use Rattle.std.proofs.Common.{rules}
 
 -- what is written of a mark among tags
 abbrev pub Wrote : List ℕ → Targets → Reader → Mark → (html new : List ℕ) → Type 0
@@ -51,9 +52,7 @@ tags html new text e = ap (λ h. page h Tags) (sym e)
 pub tags-plain : (source : List ℕ) (targets : Targets) (reader : Reader) (mark : Mark) (html new part : List ℕ) → mark.kind ≡ kinds.Plain → IsMarkIn source targets reader mark → part ≡ slice_range source mark.at mark.end → new ≡ html ++ part
     → Wrote source targets reader mark html new
 unfolding write_all
-tags-plain source targets reader mark html new part is m of e =
-    of-kind source targets reader mark html new kinds.Plain is
-    (tags html new (escape (slice_range source mark.at mark.end)) (e ∙ ap (λ t. html ++ t) (of ∙ sym (text-html (slice_range source mark.at mark.end) (known source targets reader mark kinds.Plain is m)))))
+tags-plain source targets reader mark html new part is m of e = search (rules, of-kind, tags, text-html, known)
 
 -- the byte that is escaped
 byte-at : (source : List ℕ) (at end b : ℕ) → slice_range source at end ≡ b ∷ [] → get_or source at 0 ≡ b
@@ -68,10 +67,7 @@ byte-at source at end b e = go (end - at) refl
 
 pub escaped-at : (source bytes : List ℕ) (targets : Targets) (reader : Reader) (mark : Mark) → mark.kind ≡ kinds.Escaped → IsMarkIn source targets reader mark → bytes ≡ source
     → (is_escaped (get_or bytes mark.at 0) ≡ true) × (slice_range source mark.at mark.end ≡ get_or bytes mark.at 0 ∷ [])
-escaped-at source bytes targets reader mark is m same =
-    let k = known source targets reader mark kinds.Escaped is m in
-    let b : get_or bytes mark.at 0 ≡ k.0 = ap (λ t. get_or t mark.at 0) same ∙ byte-at source mark.at mark.end k.0 k.2 in
-    (ap is_escaped b ∙ k.1, k.2 ∙ ap (λ n. n ∷ []) (sym b))
+escaped-at source bytes targets reader mark is m same = search (rules, known, byte-at)
 
 pub tags-escaped : (source bytes : List ℕ) (targets : Targets) (reader : Reader) (mark : Mark) (html new : List ℕ) → mark.kind ≡ kinds.Escaped → IsMarkIn source targets reader mark → bytes ≡ source → new ≡ html ++ escape (get_or bytes mark.at 0 ∷ [])
     → Wrote source targets reader mark html new
@@ -94,10 +90,7 @@ code-html text = simp (fold_out-Inline Rendered inline_step, outs-Code)
 pub tags-code : (source : List ℕ) (targets : Targets) (reader : Reader) (mark : Mark) (html new part : List ℕ) (from to : ℕ) → mark.kind ≡ kinds.Code from to → part ≡ slice_range source from to → new ≡ html ++ code_span_html (one_line part)
     → Wrote source targets reader mark html new
 unfolding write_all
-tags-code source targets reader mark html new part from to is of e =
-    let text = one_line (slice_range source from to) in
-    of-kind source targets reader mark html new (kinds.Code from to) is
-    (tags html new (rendered (inlines.Code text)).html (e ∙ ap (λ t. html ++ code_span_html (one_line t)) of ∙ ap (λ t. html ++ t) (sym (code-html text))))
+tags-code source targets reader mark html new part from to is of e = search (rules, of-kind, tags, code-html)
 
 raw-html : (text : List ℕ) → (rendered (inlines.Html text)).html ≡ text
 raw-html text = simp (fold_out-Inline Rendered inline_step, outs-Html)
@@ -105,9 +98,7 @@ raw-html text = simp (fold_out-Inline Rendered inline_step, outs-Html)
 pub tags-html : (source : List ℕ) (targets : Targets) (reader : Reader) (mark : Mark) (html new part : List ℕ) → mark.kind ≡ kinds.Html → part ≡ slice_range source mark.at mark.end → new ≡ html ++ part
     → Wrote source targets reader mark html new
 unfolding write_all
-tags-html source targets reader mark html new part is of e =
-    let text = slice_range source mark.at mark.end in
-    of-kind source targets reader mark html new kinds.Html is (tags html new (rendered (inlines.Html text)).html (e ∙ ap (λ t. html ++ t) (of ∙ sym (raw-html text))))
+tags-html source targets reader mark html new part is of e = search (rules, of-kind, tags, raw-html)
 
 autolink-is : (is_address : Bool) (text : List ℕ) → (rendered (autolink is_address text)).html ≡ autolink_html is_address text
 autolink-is is_address text = linked (if is_address then codes "mailto:" ++ text else text)
@@ -124,10 +115,7 @@ autolink-is is_address text = linked (if is_address then codes "mailto:" ++ text
 pub tags-autolink : (source : List ℕ) (targets : Targets) (reader : Reader) (mark : Mark) (html new part : List ℕ) (is_address : Bool) → mark.kind ≡ kinds.Autolink is_address → part ≡ slice_range source (mark.at + 1) (mark.end - 1)
     → new ≡ html ++ autolink_html is_address part → Wrote source targets reader mark html new
 unfolding write_all
-tags-autolink source targets reader mark html new part is_address is of e =
-    let text = slice_range source (mark.at + 1) (mark.end - 1) in
-    of-kind source targets reader mark html new (kinds.Autolink is_address) is
-    (tags html new (rendered (autolink is_address text)).html (e ∙ ap (λ t. html ++ autolink_html is_address t) of ∙ ap (λ t. html ++ t) (sym (autolink-is is_address text))))
+tags-autolink source targets reader mark html new part is_address is of e = search (rules, of-kind, tags, autolink-is)
 
 pub tags-soft : (source : List ℕ) (targets : Targets) (reader : Reader) (mark : Mark) (html new : List ℕ) → mark.kind ≡ kinds.Soft → new ≡ html ++ codes "\n" → Wrote source targets reader mark html new
 unfolding write_all
@@ -150,35 +138,20 @@ mode-link number false dest title = refl
 pub tags-start : (source : List ℕ) (targets : Targets) (reader : Reader) (mark : Mark) (html new : List ℕ) (number : ℕ) (link : Link) → mark.kind ≡ kinds.Start number → IsMarkIn source targets reader mark → link ≡ get_or reader.links.items number link
     → new ≡ html ++ start_html (link_tag source targets number link) → Wrote source targets reader mark html new
 unfolding write_all
-tags-start source targets reader mark html new number link is m read e =
-    let of : link ≡ get_or reader.links.items number no_link = get_or_read reader.links.items number link (known source targets reader mark (kinds.Start number) is m).known read no_link in
-    let l = get_or reader.links.items number no_link in
-    let target = target_in source targets l.target in
-    of-kind source targets reader mark html new (kinds.Start number) is
-    (ap (λ h. page h (mode_of (link_tag source targets number l))) (ap (λ k. html ++ start_html (link_tag source targets number k)) (sym of) ∙ sym e) ∙ ap (λ m. page new m) (mode-link number l.image target.0 target.1))
+tags-start source targets reader mark html new number link is m read e = search (rules, get_or_read, known, of-kind, mode-link)
 
 pub tags-end : (source : List ℕ) (targets : Targets) (reader : Reader) (mark : Mark) (html new : List ℕ) (number : ℕ) (link : Link) → mark.kind ≡ kinds.End number → IsMarkIn source targets reader mark → link ≡ get_or reader.links.items number link
     → new ≡ html ++ end_html (link_tag source targets number link) → Wrote source targets reader mark html new
 unfolding write_all
-tags-end source targets reader mark html new number link is m read e =
-    let of : link ≡ get_or reader.links.items number no_link = get_or_read reader.links.items number link (known source targets reader mark (kinds.End number) is m).known read no_link in
-    of-kind source targets reader mark html new (kinds.End number) is (ap (λ h. page h Tags) (ap (λ k. html ++ end_html (link_tag source targets number k)) (sym of) ∙ sym e))
+tags-end source targets reader mark html new number link is m read e = search (rules, get_or_read, known, of-kind)
 
 -- a mark that is written as the text that is there
 
 pub numbered : (source : List ℕ) (targets : Targets) (reader : Reader) (mark : Mark) → IsMarkIn source targets reader mark → IsNumbered reader.runs.runs.items mark.kind
-numbered source targets reader mark m = go mark.kind m.kind
-  where
-    go : (kind : Kind) → IsOfKind source targets reader.runs.runs.items reader.links.items mark.at mark.end kind → IsNumbered reader.runs.runs.items kind
-    go (kinds.Run number) h = h.0
-    go _ h = tt
+numbered source targets reader mark m = search rules
 
 pub linked : (source : List ℕ) (targets : Targets) (reader : Reader) (mark : Mark) → IsMarkIn source targets reader mark → IsLinked reader.links.items mark.kind
-linked source targets reader mark m = go mark.kind m.kind
-  where
-    go : (kind : Kind) → IsOfKind source targets reader.runs.runs.items reader.links.items mark.at mark.end kind → IsLinked reader.links.items kind
-    go (kinds.Start number) h = h.known
-    go _ h = tt
+linked source targets reader mark m = search rules
 
 -- in an alternative text
 
@@ -218,10 +191,7 @@ code-plain text = simp (fold_out-Inline Rendered inline_step, outs-Code)
 pub alt-code : (source : List ℕ) (targets : Targets) (reader : Reader) (mark : Mark) (link : ℕ) (html new part : List ℕ) (from to : ℕ) → mark.kind ≡ kinds.Code from to → part ≡ slice_range source from to → new ≡ html ++ escape (one_line part)
     → Adds (Alternative link) html (mark_events source targets reader mark) new
 unfolding write_all
-alt-code source targets reader mark link html new part from to is of e =
-    let text = one_line (slice_range source from to) in
-    alt-of source targets reader mark link html new (kinds.Code from to) is
-    (alt link html new (escape (rendered (inlines.Code text)).plain) (e ∙ ap (λ t. html ++ escape (one_line t)) of ∙ ap (λ t. html ++ escape t) (sym (code-plain text))))
+alt-code source targets reader mark link html new part from to is of e = search (rules, alt-of, alt, code-plain)
 
 raw-plain : (text : List ℕ) → (rendered (inlines.Html text)).plain ≡ text
 raw-plain text = simp (fold_out-Inline Rendered inline_step, outs-Html)
@@ -229,9 +199,7 @@ raw-plain text = simp (fold_out-Inline Rendered inline_step, outs-Html)
 pub alt-html : (source : List ℕ) (targets : Targets) (reader : Reader) (mark : Mark) (link : ℕ) (html new part : List ℕ) → mark.kind ≡ kinds.Html → part ≡ slice_range source mark.at mark.end → new ≡ html ++ escape part
     → Adds (Alternative link) html (mark_events source targets reader mark) new
 unfolding write_all
-alt-html source targets reader mark link html new part is of e =
-    let text = slice_range source mark.at mark.end in
-    alt-of source targets reader mark link html new kinds.Html is (alt link html new (escape (rendered (inlines.Html text)).plain) (e ∙ ap (λ t. html ++ escape t) (of ∙ sym (raw-plain text))))
+alt-html source targets reader mark link html new part is of e = search (rules, alt-of, alt, raw-plain)
 
 autolink-plain : (is_address : Bool) (text : List ℕ) → (rendered (autolink is_address text)).plain ≡ text
 autolink-plain is_address text = linked-plain (if is_address then codes "mailto:" ++ text else text)
@@ -248,10 +216,7 @@ autolink-plain is_address text = linked-plain (if is_address then codes "mailto:
 pub alt-autolink : (source : List ℕ) (targets : Targets) (reader : Reader) (mark : Mark) (link : ℕ) (html new part : List ℕ) (is_address : Bool) → mark.kind ≡ kinds.Autolink is_address → part ≡ slice_range source (mark.at + 1) (mark.end - 1)
     → new ≡ html ++ escape part → Adds (Alternative link) html (mark_events source targets reader mark) new
 unfolding write_all
-alt-autolink source targets reader mark link html new part is_address is of e =
-    let text = slice_range source (mark.at + 1) (mark.end - 1) in
-    alt-of source targets reader mark link html new (kinds.Autolink is_address) is
-    (alt link html new (escape (rendered (autolink is_address text)).plain) (e ∙ ap (λ t. html ++ escape t) (of ∙ sym (autolink-plain is_address text))))
+alt-autolink source targets reader mark link html new part is_address is of e = search (rules, alt-of, alt, autolink-plain)
 
 pub alt-soft : (source : List ℕ) (targets : Targets) (reader : Reader) (mark : Mark) (link : ℕ) (html new : List ℕ) → mark.kind ≡ kinds.Soft → new ≡ html ++ codes " " → Adds (Alternative link) html (mark_events source targets reader mark) new
 unfolding write_all
@@ -267,10 +232,7 @@ alt-start source targets reader mark link html number is = alt-of source targets
 
 pub alt-end : (source : List ℕ) (targets : Targets) (reader : Reader) (mark : Mark) (link : ℕ) (html : List ℕ) (number : ℕ) → mark.kind ≡ kinds.End number → is_end_of link mark.kind ≡ false → Adds (Alternative link) html (mark_events source targets reader mark) html
 unfolding write_all
-alt-end source targets reader mark link html number is other =
-    let l = get_or reader.links.items number no_link in
-    alt-of source targets reader mark link html html (kinds.End number) is
-    (cond-false (number == link) (page (html ++ end_html (link_tag source targets number l)) Tags) (page html (Alternative link)) (sym (ap (is_end_of link) is) ∙ other))
+alt-end source targets reader mark link html number is other = search rules
 
 -- of a run, what is left
 emphasis-end : (link : ℕ) (emphasis : Emphasis) → is_number link (tag_in emphasis) ≡ false
@@ -296,21 +258,8 @@ chain-alternative link html (p ∷ ps) n = go (n == suc (length ps)) (chain-alte
 
 run-alternative : (link : ℕ) (html : List ℕ) (ps : List made.Pair) (number : ℕ) (r : held.Run) → write_all (page html (Alternative link)) (run_events (pairs_in ps) number (paired_run r)) ≡ page (html ++ replicate r.run.left (byte_of r.run.marker)) (Alternative link)
 unfolding write_all
-run-alternative link html ps number r =
-    let rest = replicate r.run.left (byte_of r.run.marker) in
-    let more = Rest number (run_of r.run) ∷ starts (pairs_in ps) r.opened in
-    write-append (page html (Alternative link)) (ends_between (pairs_in ps) r.from r.to) more
-    ∙ ap (λ qs. write_all (write_all (page html (Alternative link)) (ends qs)) more) (ap (drop r.from) (take-map pair_in r.to ps) ∙ drop-map pair_in r.from (take r.to ps))
-    ∙ ap (λ p. write_all p more) (ends-alternative link html (drop r.from (take r.to ps)))
-    ∙ ap (λ t. write_all (page (html ++ t) (Alternative link)) (starts (pairs_in ps) r.opened)) (run-html r.run.marker r.run.left)
-    ∙ chain-alternative link (html ++ rest) (reverse (pairs_in ps)) r.opened
+run-alternative link html ps number r = search (rules, write-append, take-map, drop-map, ends-alternative, run-html, chain-alternative)
 
 pub alt-run : (source : List ℕ) (targets : Targets) (reader : Reader) (mark : Mark) (link : ℕ) (html new : List ℕ) (number : ℕ) (run : held.Run) → mark.kind ≡ kinds.Run number → IsMarkIn source targets reader mark
     → run ≡ get_or reader.runs.runs.items number run → new ≡ html ++ replicate run.run.left (byte_of run.run.marker) → Adds (Alternative link) html (mark_events source targets reader mark) new
-alt-run source targets reader mark link html new number run is m of e =
-    let runs = reader.runs.runs.items in
-    let pairs = pairs_in reader.runs.pairs.items in
-    let low : number < length runs = (known source targets reader mark (kinds.Run number) is m).0 in
-    let found : get_or (runs_in runs) number parts.no_run ≡ paired_run run = get_or-map paired_run runs number run parts.no_run low ∙ ap paired_run (sym of) in
-    alt-of source targets reader mark link html new (kinds.Run number) is
-    (ap (λ r. write_all (page html (Alternative link)) (run_events pairs number r)) found ∙ run-alternative link html reader.runs.pairs.items number run ∙ ap (λ h. page h (Alternative link)) (sym e))
+alt-run source targets reader mark link html new number run is m of e = search (rules, known, get_or-map, alt-of, run-alternative)

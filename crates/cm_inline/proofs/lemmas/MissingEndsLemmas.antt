@@ -23,6 +23,7 @@ use Rattle.cm_inline.specs.declared.missing_ends.Form.{Form}
 use Rattle.cm_inline.specs.declared.missing_ends.Form.TheVariants.{Comment, Instruction, CharacterData, Declaration}
 use Rattle.cm_inline.specs.declared.missing_ends.MissingEnds.{MissingEnds}
 use Rattle.cm_inline.specs.steps.Missing.{start_of, end_of, Missing, missing_from, after_last, Knows, NoneFrom}
+use Rattle.std.proofs.Common.{rules}
 
 -- no word is at the end of a source
 past-nothing : (word : List ℕ) → behind_word word [] ≡ None
@@ -37,13 +38,7 @@ abbrev of_length : ℕ → MissingEnds
 of_length len = record { comment = len; instruction = len; character_data = len; declaration = len; backticks = None }
 
 pub known-at-end : (source : List ℕ) → Knows source (of_length (length source))
-known-at-end source = record { forms = go; backticks = tt }
-  where
-    go : (form : Form) → Missing source (end_of form) (missing_from (of_length (length source)) form)
-    go Comment = missing-at-end (codes "-->") source
-    go Instruction = missing-at-end (codes "?>") source
-    go CharacterData = missing-at-end (codes "]]>") source
-    go Declaration = missing-at-end (codes ">") source
+known-at-end source = search (rules, missing-at-end)
 
 -- a text that starts with a word
 begins-so : (word text : List ℕ) → starts_with nat_eq text word ≡ true → (rest : List ℕ) × (text ≡ word ++ rest)
@@ -61,11 +56,7 @@ abbrev Begins : List ℕ → Form → Type 0
 Begins text form = (rest : List ℕ) × (text ≡ start_of form ++ rest)
 
 pub form-begins : (text : List ℕ) (form : Form) (told : Bool) (result : Option Form) → (told ≡ true → Begins text form) → result ≡ then_some told form → IfSome result (Begins text)
-form-begins text form told result there h = subst (λ r. IfSome r (Begins text)) (sym h) (go told there)
-  where
-    go : (t : Bool) → (t ≡ true → Begins text form) → IfSome (then_some t form) (Begins text)
-    go true k = k refl
-    go false k = tt
+form-begins text form told result there h = search rules
 
 -- so no raw HTML starts where its end is missing
 
@@ -110,13 +101,7 @@ module _ (last next : BTreeMap ℕ ℕ) (key end : ℕ) (updates : Updates nat_c
       → drop end source ≡ after_run 96 (drop (at + plain) source) → key ≡ end - (at + plain)
       → ((count : ℕ) → up_to_run count false (drop at source) ≡ None → up_to_run count false (drop (after_last last count) source) ≡ None)
       → (count : ℕ) → up_to_run count false (drop end source) ≡ None → up_to_run count false (drop (after_last next count) source) ≡ None
-  none-behind-last source at plain found run left size before count none = go (cases_eq key count)
-    where
-      go : (key ≡ count) ⊎ (key ≡ count → ⊥) → up_to_run count false (drop (after_last next count) source) ≡ None
-      go (inl same) = ap (λ k. up_to_run count false (drop k source)) (ap (after_last next) (sym same) ∙ behind-this) ∙ none
-      go (inr other) =
-          ap (λ k. up_to_run count false (drop k source)) (behind-other count other)
-          ∙ before count (none-before count source at plain found end run left (λ e. other (size ∙ e)) none)
+  none-behind-last source at plain found run left size before count none = search (rules, cases_eq, behind-this, behind-other, none-before)
 
 -- a backtick string whose like isn't found after it starts no code span
 pub no-code-span : (source : List ℕ) (at count start : ℕ) → start ≡ at + count → run_length 96 (drop at source) ≡ count → NoneFrom source count start → spanned_as_written (drop at source) ≡ None

@@ -30,6 +30,7 @@ use Rattle.cm_inline.proofs.lemmas.LaidLemmas.{events-next, events-last}
 use Rattle.cm_inline.proofs.lemmas.RunLemmas.{run-known}
 use Rattle.cm_inline.proofs.lemmas.TagLemmas.{length-pairs}
 use Rattle.cm_inline.proofs.lemmas.DepthLemmas.{code-depth, html-depth, soft-depth, hard-depth, autolink-depth}
+use Rattle.std.proofs.Common.{rules}
 
 pub rise-append : (l : Level) (fs gs : List Event) → rise_all l (fs ++ gs) ≡ rise_all (rise_all l fs) gs
 unfolding rise_all
@@ -81,27 +82,12 @@ pub record RunRisesAt (bound : ℕ) (l : Level) (pairs : List made.Pair) (number
 
 pub run-rises : (bound : ℕ) (l : Level) (pairs : List Pair) (number : ℕ) (r : held.Run) → r.to ≤ length pairs → CanRiseAll bound l (run_events pairs number (paired_run r)) → RunRises bound l pairs number r
 unfolding rise_all
-run-rises bound l pairs number r to can =
-    let closed = drop r.from (take r.to pairs) in
-    let more = Rest number (run_of r.run) ∷ starts pairs r.opened in
-    let size : length closed ≡ r.to - r.from = omega (arith, length-drop r.from (take r.to pairs), length-take r.to pairs, to) in
-    let parts = can-append bound l (ends closed) more can in
-    let fall = ends-fall bound l closed parts.0 in
-    let behind : rise_all l (ends closed) ≡ level (l.now - (r.to - r.from)) l.most = fall.1 ∙ ap (λ n. level (l.now - n) l.most) size in
-    record {
-      holds = omega (arith, fall.0, size);
-      starts_rise = (subst (λ k. CanRiseAll bound k more) behind parts.1).1;
-      is = rise-append l (ends closed) more ∙ ap (λ k. rise_all k more) behind;
-    }
+run-rises bound l pairs number r to can = search (rules, length-drop, length-take, can-append, ends-fall, rise-append)
 
 -- the same of the run that was read
 pub run-rises-at : (bound : ℕ) (l : Level) (runs : List held.Run) (pairs : List made.Pair) (number : ℕ) (r : held.Run) → number < length runs → r ≡ get_or runs number r → AreChained (runs_in runs) (pairs_in pairs)
     → CanRiseAll bound l (run_events (pairs_in pairs) number (paired_run (run_at runs number))) → RunRisesAt bound l pairs number (run_at runs number) r
-run-rises-at bound l runs pairs number r low read chained can =
-    let is : r ≡ run_at runs number = get_or_read runs number r low read no_run in
-    let known = run-known runs pairs number r low read chained in
-    let rises = run-rises bound l (pairs_in pairs) number r (omega (arith, known.to, length-pairs pairs)) (subst (λ (q : held.Run). CanRiseAll bound l (run_events (pairs_in pairs) number (paired_run q))) (sym is) can) in
-    record { holds = rises.holds; starts_rise = rises.starts_rise; is = ap (λ (q : held.Run). rise_all l (run_events (pairs_in pairs) number (paired_run q))) (sym is) ∙ rises.is }
+run-rises-at bound l runs pairs number r low read chained can = search (rules, get_or_read, run-known, run-rises, length-pairs)
 
 -- one mark
 
@@ -115,15 +101,11 @@ can-kind : (source : List ℕ) (targets : Targets) (reader : Reader) (mark : Mar
 can-kind source targets reader mark bound l kind is h = subst (λ k. CanRiseAll bound l (kind_events source targets reader mark k)) is h
 
 pub autolink-fits : (source : List ℕ) (targets : Targets) (reader : Reader) (mark : Mark) (bound : ℕ) (l : Level) (is_address : Bool) → mark.kind ≡ kinds.Autolink is_address → CanRiseAll bound l (mark_events source targets reader mark) → l.now + 1 < bound
-autolink-fits source targets reader mark bound l is_address is h =
-    let text = slice_range source (mark.at + 1) (mark.end - 1) in
-    subst (λ n. l.now + n < bound) (autolink-depth is_address text) (can-kind source targets reader mark bound l (kinds.Autolink is_address) is h).0
+autolink-fits source targets reader mark bound l is_address is h = search (rules, autolink-depth, can-kind)
 
 pub autolink-level : (source : List ℕ) (targets : Targets) (reader : Reader) (mark : Mark) (l : Level) (is_address : Bool) (most : ℕ) → mark.kind ≡ kinds.Autolink is_address → most ≡ max l.most (l.now + 1) → level l.now most ≡ rise_all l (mark_events source targets reader mark)
 unfolding rise_all
-autolink-level source targets reader mark l is_address most is e =
-    let text = slice_range source (mark.at + 1) (mark.end - 1) in
-    of-kind source targets reader mark l (level l.now most) (kinds.Autolink is_address) is (ap (level l.now) (e ∙ ap (λ n. max l.most (l.now + n)) (sym (autolink-depth is_address text))))
+autolink-level source targets reader mark l is_address most is e = search (rules, of-kind, autolink-depth)
 
 pub begin-level : (source : List ℕ) (targets : Targets) (reader : Reader) (mark : Mark) (l new : Level) (number : ℕ) → mark.kind ≡ kinds.Start number → ((tag : Tag) → new ≡ rise l (Start tag)) → new ≡ rise_all l (mark_events source targets reader mark)
 unfolding rise_all
@@ -140,18 +122,7 @@ same-level l n high e = ap (level l.now) (omega (arith, high, e))
 pub flat-level : (source : List ℕ) (targets : Targets) (reader : Reader) (mark : Mark) (l : Level) → l.now ≤ l.most → ((is_address : Bool) → mark.kind ≡ kinds.Autolink is_address → ⊥) → ((n : ℕ) → mark.kind ≡ kinds.Run n → ⊥)
     → ((n : ℕ) → mark.kind ≡ kinds.Start n → ⊥) → ((n : ℕ) → mark.kind ≡ kinds.End n → ⊥) → l ≡ rise_all l (mark_events source targets reader mark)
 unfolding rise_all
-flat-level source targets reader mark l high no_autolink no_run no_start no_end = go mark.kind refl
-  where
-    go : (kind : Kind) → mark.kind ≡ kind → l ≡ rise_all l (kind_events source targets reader mark kind)
-    go (kinds.Code from to) e = same-level l _ high (code-depth (one_line (slice_range source from to)))
-    go kinds.Html e = same-level l _ high (html-depth (slice_range source mark.at mark.end))
-    go (kinds.Autolink is_address) e = absurd (no_autolink is_address e)
-    go kinds.Soft e = same-level l _ high soft-depth
-    go kinds.Hard e = same-level l _ high hard-depth
-    go (kinds.Run number) e = absurd (no_run number e)
-    go (kinds.Start number) e = absurd (no_start number e)
-    go (kinds.End number) e = absurd (no_end number e)
-    go _ e = refl
+flat-level source targets reader mark l high no_autolink no_run no_start no_end = search (rules, same-level, code-depth, html-depth, soft-depth, hard-depth)
 
 -- from how deep all nest it follows that the levels so far can rise
 
@@ -224,13 +195,7 @@ next-laid lines source targets reader depth at l h n = subst (AreLaid lines sour
 
 next-deepest : (lines : Bool) (source : List ℕ) (targets : Targets) (reader : Reader) (depth at : ℕ) (l : Level) → at < length reader.marks.items → NestsFrom lines source targets reader depth at l
     → (let m = mark_numbered reader.marks.items at in deepest l.now l.most (mark_events source targets reader m ++ events_from source targets reader m.end (drop (at + 1) reader.marks.items)) ≡ Some depth)
-next-deepest lines source targets reader depth at l h n =
-    let m = mark_numbered reader.marks.items at in
-    let ms = drop (at + 1) reader.marks.items in
-    let more = mark_events source targets reader m ++ events_from source targets reader m.end ms in
-    sym (texts-flat (runs_in reader.runs.runs.items) (pairs_in reader.runs.pairs.items) l.now l.most (slice_range source n.from m.at) more n.high)
-    ∙ ap (deepest l.now l.most) (sym (events-next source targets reader n.from m ms))
-    ∙ ap (λ t. deepest l.now l.most (events_from source targets reader n.from t)) (sym (drop_more reader.marks.items at no_mark h)) ∙ n.rest
+next-deepest lines source targets reader depth at l h n = search (rules, texts-flat, events-next, drop_more)
 
 pub nests-at : (lines : Bool) (source : List ℕ) (targets : Targets) (reader : Reader) (bound depth at : ℕ) (l : Level) (mark : Mark) → at < length reader.marks.items → mark ≡ mark_numbered reader.marks.items at → AreChained (runs_in reader.runs.runs.items) (pairs_in reader.runs.pairs.items)
     → depth < bound → NestsFrom lines source targets reader depth at l → NestsAt source targets reader bound l mark

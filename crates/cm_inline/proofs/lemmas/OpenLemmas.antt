@@ -13,6 +13,7 @@ use Rattle.cm_inline.specs.steps.pairing.Segments.{Segment, Waiting, Made, items
 use Rattle.cm_inline.specs.steps.Brackets.{MarkedLeaf, is_opener, has_opener, AreClosed, IsOpener, opened, AreOpen}
 use Rattle.cm_inline.specs.steps.Marks.{parts_between, IsUnmarked}
 use Rattle.cm_inline.proofs.lemmas.JoinLemmas.{Later, laid-join, parts-join, parts-none, laid-later, parts-later}
+use Rattle.std.proofs.Common.{rules}
 
 -- segments one after another
 pub items-append : (xs ys : List Segment) → items_in (xs ++ ys) ≡ items_in xs ++ items_in ys
@@ -51,11 +52,7 @@ neither u v e f = ap (λ u. u || v) e ∙ f
 
 -- closed segments, one after another
 pub closed-join : (leaf : MarkedLeaf) (from mid to : ℕ) (xs ys : List Segment) (ms ns : List Mark) → AreClosed leaf from mid xs ms → AreClosed leaf mid to ys ns → AreClosed leaf from to (xs ++ ys) (ms ++ ns)
-closed-join leaf from mid to xs ys ms ns h g = record {
-  parts = all_parts-append xs ys ∙ ap (λ t. t ++ all_parts ys) h.parts ∙ ap (λ t. parts_between leaf.source leaf.targets leaf.links from mid ms ++ t) g.parts ∙ sym (parts-join leaf.lines leaf.source leaf.targets leaf.runs leaf.links from mid to ms ns h.laid g.laid);
-  laid = laid-join leaf.lines leaf.source leaf.targets leaf.runs leaf.links from mid to ms ns h.laid g.laid;
-  none = ap has_opener (items-append xs ys) ∙ opener-append (items_in xs) (items_in ys) ∙ neither (has_opener (items_in xs)) (has_opener (items_in ys)) h.none g.none;
-}
+closed-join leaf from mid to xs ys ms ns h g = search (rules, all_parts-append, parts-join, laid-join, items-append, opener-append, neither)
 
 -- Closed segments go behind open brackets.
 pub open-more : (leaf : MarkedLeaf) (bs : List Bracket) (xs ys : List Segment) (ms ns : List Mark) (mid to : ℕ) (linked : Bool) → AreOpen leaf bs xs ms mid (holds_link (items_in ys) || linked) → AreClosed leaf mid to ys ns
@@ -86,11 +83,7 @@ abbrev pub later_leaf : MarkedLeaf → List HeldRun → List Link → ℕ → Ma
 later_leaf leaf runs more links_end = record { lines = leaf.lines; source = leaf.source; targets = leaf.targets; runs = runs; links = leaf.links ++ more; links_end = links_end }
 
 pub closed-later : (leaf : MarkedLeaf) (runs : List HeldRun) (more : List Link) (links_end from to : ℕ) (xs : List Segment) (ms : List Mark) → Later leaf.runs runs → AreClosed leaf from to xs ms → AreClosed (later_leaf leaf runs more links_end) from to xs ms
-closed-later leaf runs more links_end from to xs ms later h = record {
-  parts = h.parts ∙ sym (parts-later leaf.lines leaf.source leaf.targets leaf.runs runs leaf.links more later from to ms h.laid);
-  laid = laid-later leaf.lines leaf.source leaf.targets leaf.runs runs leaf.links more later from to ms h.laid;
-  none = h.none;
-}
+closed-later leaf runs more links_end from to xs ms later h = search (rules, parts-later, laid-later)
 
 pub open-later : (leaf : MarkedLeaf) (runs : List HeldRun) (more : List Link) (bs : List Bracket) (xs : List Segment) (ms : List Mark) (to : ℕ) (linked : Bool) → Later leaf.runs runs → AreOpen leaf bs xs ms to linked
     → AreOpen (later_leaf leaf runs more leaf.links_end) bs xs ms to linked
@@ -152,19 +145,4 @@ pub open-opened : (leaf : MarkedLeaf) (bs : List Bracket) (b : Bracket) (high : 
     → b.waiting ≡ length (numbers_in xs) → leaf.links_end ≤ length ms → IsUnmarked leaf.lines leaf.source b.end b.end
     → AreOpen leaf (b ∷ bs) (xs ++ opened leaf.source b high ∷ []) (ms ++ record { at = at; end = b.end; kind = Plain } ∷ []) b.end false
 unfolding holds_link items_in all_parts has_opener
-open-opened leaf bs b high xs ms at h bracket number waiting low none = record {
-  front = xs;
-  high = high;
-  inside = [];
-  early = ms;
-  at = at;
-  late = [];
-  whole = refl;
-  marks_are = refl;
-  closed = record { parts = sym (parts-none leaf.lines leaf.source leaf.targets leaf.runs leaf.links b.end); laid = none; none = refl };
-  bracket = bracket;
-  number = number;
-  waiting = waiting;
-  link = not-below b.mark leaf.links_end (omega (arith, number, low));
-  below = h;
-}
+open-opened leaf bs b high xs ms at h bracket number waiting low none = grind (arith, nat_tests, parts-none, not-below)

@@ -9,6 +9,7 @@ use Rattle.cm_inline.specs.steps.Openers.{no_opener, entries_in, leaving, AreOpe
 use Rattle.cm_inline.specs.steps.Runs.{run_of, entry_of}
 use Rattle.cm_inline.specs.steps.Searching.{find_opener, looks_for, from_found}
 use Rattle.cm_inline.proofs.lemmas.StepLemmas.{step-low, step-finds, step-passes}
+use Rattle.std.proofs.Common.{rules}
 
 pub entries-push : (stack : List Opener) (opener : Opener) → entries_in (stack ++ opener ∷ []) ≡ entry_of opener ∷ entries_in stack
 entries-push stack opener = ap reverse (map-append entry_of stack (opener ∷ [])) ∙ reverse-append (map entry_of stack) (entry_of opener ∷ [])
@@ -83,9 +84,7 @@ turn-ends c bottom stack at h = (ap (λ n. find_opener c bottom (entries_in (tak
 -- what a pair leaves of the last entry
 
 pub stack-ends : (stack : List Opener) → 0 < length stack → stack ≡ take (length stack - 1) stack ++ get_or stack (length stack - 1) no_opener ∷ []
-stack-ends stack h =
-    let n : length stack ≡ length stack - 1 + 1 = omega (arith, h) in
-    sym (take_all (length stack) stack (omega arith)) ∙ ap (λ k. take k stack) n ∙ take_more stack (length stack - 1) no_opener (omega (arith, h))
+stack-ends stack h = search (rules, take_all, take_more)
 
 pub stack-set : (stack : List Opener) (y : Opener) → 0 < length stack → set stack (length stack - 1) y ≡ take (length stack - 1) stack ++ y ∷ []
 stack-set stack y h =

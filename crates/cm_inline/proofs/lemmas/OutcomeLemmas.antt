@@ -14,19 +14,14 @@ use Rattle.cm_inline.specs.steps.Nesting.{NestsTo}
 use Rattle.cm_inline.specs.steps.Runs.{runs_in, pairs_in}
 use Rattle.cm_inline.proofs.lemmas.EventLemmas.{means-settles}
 use Rattle.cm_inline.proofs.lemmas.ReadingLemmas.{nests-all, writes-inlines}
+use Rattle.std.proofs.Common.{rules}
 
 -- the HTML, with no alternative text left open
 pub stands-html : (fs : List Event) (items : List Item) → StandFor fs items → (write_all (page [] Tags) fs).html ≡ inlines_html (settled items)
-stands-html fs items s = ap html (writes-inlines fs items s.writes)
-  where
-    html : Page → List ℕ
-    html p = p.html
+stands-html fs items s = search (rules, writes-inlines)
 
 pub stands-mode : (fs : List Event) (items : List Item) → StandFor fs items → (write_all (page [] Tags) fs).mode ≡ Tags
-stands-mode fs items s = ap mode (writes-inlines fs items s.writes)
-  where
-    mode : Page → Mode
-    mode p = p.mode
+stands-mode fs items s = search rules
 
 -- the inlines
 pub stands-inlines : (fs : List Event) (items : List Item) → StandFor fs items → inlines_of fs ≡ settled items
@@ -44,10 +39,4 @@ stands-depth fs items s =
 pub stands-nests : (lines : Bool) (source : List ℕ) (targets : Targets) (reader : Reader) (items : List Item) → AreLaid lines source targets reader.runs.runs.items reader.links.items 0 (length source) reader.marks.items
     → AreChained (runs_in reader.runs.runs.items) (pairs_in reader.runs.pairs.items) → starts_in (events_in source targets reader) ≤ length reader.runs.pairs.items + length reader.links.items → StandFor (events_in source targets reader) items
     → NestsTo lines source targets reader (inlines_depth (settled items))
-stands-nests lines source targets reader items laid chained few s = record {
-  laid = laid;
-  chained = chained;
-  nests = nests-all (events_in source targets reader) items s.nests;
-  near = stands-depth (events_in source targets reader) items s;
-  few = few;
-}
+stands-nests lines source targets reader items laid chained few s = search (rules, nests-all, stands-depth)

@@ -10,6 +10,7 @@ use Rattle.cm_scan.proofs.lemmas.inlines.OnePassLemmas.{closed-none, closed-gone
 use Rattle.cm_inline.specs.steps.Depths.{items_depth}
 use Rattle.cm_inline.proofs.lemmas.InlineDepthLemmas.{emphasised-depth, text-first, both, settled-after-depth}
 use Rattle.cm_inline.proofs.lemmas.CloserLemmas.{pass-closer, pass-other}
+use Rattle.std.proofs.Common.{rules}
 
 pub reverse-depth : (items : List Item) → items_depth (reverse items) ≡ items_depth items
 reverse-depth [] = refl
@@ -23,14 +24,7 @@ without-depth n run = elim (nat_le run.left n) as (λ b. items_depth (cond b [] 
 
 -- a pair nests deeper than what is between its runs, and no less deep than what is before
 pub pair-deeper : (found : Opened) (closer : Run) → (items_depth found.inside < items_depth (up_to_pair found closer)) × (items_depth (together found) ≤ items_depth (up_to_pair found closer))
-pair-deeper found closer =
-    let n = used found.opener closer in
-    let emphasis = emphasised closer.character n (settled found.inside) in
-    let one : depth_of emphasis ≡ items_depth found.inside + 1 = emphasised-depth closer.character n (settled found.inside) ∙ ap (λ d. d + 1) (settled-items found.inside) in
-    let up = both (found.before ++ without n found.opener) (Finished emphasis ∷ []) in
-    let front = both found.before (without n found.opener) in
-    let all = both found.before (Delimiters found.opener ∷ found.inside) in
-    (omega (arith, one, up, front), omega (arith, one, up, front, all, without-depth n found.opener))
+pair-deeper found closer = search (rules, emphasised-depth, settled-items, both, without-depth)
 
 split-depth : (before : List Item) (closer : Run) (found : Opened) → nearest_opener closer before [] ≡ Some found → items_depth before ≤ items_depth (up_to_pair found closer)
 split-depth before closer found s =

@@ -12,6 +12,8 @@ use Rattle.cm_inline.specs.steps.pairing.Stacks.{taken}
 use Rattle.cm_inline.specs.steps.pairing.Parts.{Pair, PairedRun, Part, Numbered, Known, chain, starts, ends, ends_between, no_run, run_events, events_of, with_pair, with_opened, opened_event, open_at, Absent, Rising, HaveNoRun, AreParts}
 use Rattle.cm_inline.proofs.lemmas.StackLemmas.{Found, pair_events}
 use Rattle.cm_inline.specs.steps.pairing.ClosingRuns.{AreUnder}
+use Rattle.std.proofs.Common.{rules}
+use Rattle.std.proofs.lemmas.Bool.Decides.{nat_tests}
 
 -- chains stay when a pair comes
 pub chain-stays : (p : Pair) (ps : List Pair) (n : ℕ) → n ≤ length ps → chain (p ∷ ps) n ≡ chain ps n
@@ -98,52 +100,13 @@ under-all n m (Known fs ∷ ms) p h = under-all n m ms p h
 open-run : (number count n : ℕ) (tag : Tag) (pairs : List Pair) (r : PairedRun) →
     open_at number count tag (run_events pairs n r) ≡ ends_between pairs r.from r.to ++ (opened_event number count tag (Rest n r.run) ++ starts pairs r.opened)
 unfolding open_at
-open-run number count n tag pairs r =
-    open-append number count tag (ends_between pairs r.from r.to) (Rest n r.run ∷ starts pairs r.opened)
-    ∙ ap (λ t. t ++ (opened_event number count tag (Rest n r.run) ++ open_at number count tag (starts pairs r.opened))) (open-absent number count tag (ends_between pairs r.from r.to) (absent-none number (ends_between pairs r.from r.to) (ends-none (drop r.from (take r.to pairs)))))
-    ∙ ap (λ t. ends_between pairs r.from r.to ++ (opened_event number count tag (Rest n r.run) ++ t)) (open-absent number count tag (starts pairs r.opened) (absent-none number (starts pairs r.opened) (chain-none (reverse pairs) r.opened)))
+open-run number count n tag pairs r = search (rules, open-append, open-absent, absent-none, ends-none, chain-none)
 
 -- one part, and all
 run-written : (number count : ℕ) (tag : Tag) (runs : List PairedRun) (pairs : List Pair) (n : ℕ) → n < length runs → (get_or runs n no_run).opened ≤ length pairs → (get_or runs n no_run).to ≤ length pairs
     → run_events (with_pair tag number runs pairs) n (get_or (with_opened number count runs pairs) n no_run) ≡ open_at number count tag (run_events pairs n (get_or runs n no_run))
-run-written number count tag runs pairs n within opened to = go (nat_split n number)
-  where
-    more : List Pair
-    more = with_pair tag number runs pairs
-
-    p : Pair
-    p = record { tag = tag; before = (get_or runs number no_run).opened }
-
-    turned : reverse more ≡ p ∷ reverse pairs
-    turned = reverse-append pairs (p ∷ [])
-
-    old : PairedRun
-    old = get_or runs n no_run
-
-    now : PairedRun
-    now = record { run = taken count (get_or runs number no_run).run; opened = length pairs + 1; from = (get_or runs number no_run).from; to = (get_or runs number no_run).to }
-
-    same_ends : (k : ℕ) → k ≤ length pairs → (j : ℕ) → ends_between more j k ≡ ends_between pairs j k
-    same_ends k h j = ap (λ t. ends (drop j t)) (take-append-le k pairs (p ∷ []) h)
-
-    long : length (reverse pairs) ≡ length pairs
-    long = omega (arith, length-reverse pairs)
-
-    go : (n ≡ number) ⊎ (n ≡ number → ⊥) → run_events more n (get_or (with_opened number count runs pairs) n no_run) ≡ open_at number count tag (run_events pairs n old)
-    go (inr q) =
-        ap (run_events more n) (get_or-set_other runs number n now no_run q)
-        ∙ ap (λ t. t ++ Rest n old.run ∷ starts more old.opened) (same_ends old.to to old.from)
-        ∙ ap (λ t. ends_between pairs old.from old.to ++ Rest n old.run ∷ t) (ap (λ t. chain t old.opened) turned ∙ chain-stays p (reverse pairs) old.opened (omega (arith, opened, long)))
-        ∙ ap (λ t. ends_between pairs old.from old.to ++ (t ++ starts pairs old.opened)) (sym (cond-false (n == number) (Rest n (taken count old.run) ∷ Start tag ∷ []) (Rest n old.run ∷ []) (ne_eqb n number q)))
-        ∙ sym (open-run number count n tag pairs old)
-    go (inl q) =
-        ap (run_events more n) (ap (λ k. get_or (set runs number now) k no_run) q ∙ get_or-set_same runs number now no_run (omega (arith, within, q)))
-        ∙ ap (λ k. run_events more n (record { run = taken count (get_or runs k no_run).run; opened = length pairs + 1; from = (get_or runs k no_run).from; to = (get_or runs k no_run).to })) (sym q)
-        ∙ ap (λ t. t ++ Rest n (taken count old.run) ∷ starts more (length pairs + 1)) (same_ends old.to to old.from)
-        ∙ ap (λ t. ends_between pairs old.from old.to ++ Rest n (taken count old.run) ∷ t)
-        (ap (λ t. chain t (length pairs + 1)) turned ∙ chain-goes p (reverse pairs) (length pairs + 1) (omega (arith, long)) ∙ ap (λ k. Start tag ∷ starts pairs (get_or runs k no_run).opened) (sym q))
-        ∙ ap (λ t. ends_between pairs old.from old.to ++ (t ++ starts pairs old.opened)) (sym (cond-true (n == number) (Rest n (taken count old.run) ∷ Start tag ∷ []) (Rest n old.run ∷ []) (eq-eqb n number q)))
-        ∙ sym (open-run number count n tag pairs old)
+run-written number count tag runs pairs n within opened to =
+    grind (arith, nat_tests, nat_split, reverse-append, take-append-le, length-reverse, get_or-set_other, chain-stays, cond-false, ne_eqb, open-run, get_or-set_same, chain-goes, cond-true, eq-eqb)
 
 pub pair-written : (number count : ℕ) (tag : Tag) (runs : List PairedRun) (pairs : List Pair) (parts : List Part) → AreParts runs pairs parts
     → events_of (with_opened number count runs pairs) (with_pair tag number runs pairs) parts ≡ open_at number count tag (events_of runs pairs parts)
@@ -192,12 +155,7 @@ rising-once low number r (_ ∷ front) back h = let o = rising-once low number r
 pub open-once : (low number count : ℕ) (tag : Tag) (r : Run) (front back : List Event) → Rising low (front ++ Rest number r ∷ back)
     → open_at number count tag (front ++ Rest number r ∷ back) ≡ front ++ Rest number (taken count r) ∷ Start tag ∷ back
 unfolding open_at
-open-once low number count tag r front back h =
-    let o = rising-once low number r front back h in
-    open-append number count tag front (Rest number r ∷ back)
-    ∙ ap (λ t. t ++ (opened_event number count tag (Rest number r) ++ open_at number count tag back)) (open-absent number count tag front o.front_lacks)
-    ∙ ap (λ t. front ++ (t ++ open_at number count tag back)) (cond-true (number == number) (Rest number (taken count r) ∷ Start tag ∷ []) (Rest number r ∷ []) (eq-eqb number number refl))
-    ∙ ap (λ t. front ++ Rest number (taken count r) ∷ Start tag ∷ t) (open-absent number count tag back o.back_lacks)
+open-once low number count tag r front back h = search (rules, rising-once, open-append, open-absent, cond-true, eq-eqb)
 
 -- So what the code writes for a pair of a closer, whose ends from a pair on stand behind the parts, is what the pair makes of the events.
 pub pair-events-written : (c : Run) (e : Entry) (below : List Entry) (items : List Item) (runs : List PairedRun) (pairs : List Pair) (parts : List Part) (first : ℕ) → AreParts runs pairs parts → first ≤ length pairs

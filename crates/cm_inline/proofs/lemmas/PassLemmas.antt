@@ -15,6 +15,7 @@ use Rattle.cm_inline.specs.steps.pairing.Stacks.{NoneOpens}
 use Rattle.cm_inline.proofs.lemmas.ClosingLemmas.{AreLow, rising-front, drop-all}
 use Rattle.cm_inline.proofs.lemmas.ReadingLemmas.{reads-none}
 use Rattle.cm_inline.proofs.lemmas.SegmentLemmas.{waits-raised}
+use Rattle.std.proofs.Common.{rules}
 
 pub rising-behind-of : (low : ℕ) (fs gs : List Event) → Rising low (fs ++ gs) → Rising low gs
 rising-behind-of low fs gs h = go fs low h
@@ -63,12 +64,7 @@ abbrev pub beginning : List PairedRun → List Pair → (looks next : ℕ) → S
 beginning runs pairs looks next = record { runs = runs; pairs = pairs; list = record { entries = []; looks = looks; next = next }; bottoms = zeros }
 
 pub zeros-zero : (k : ℕ) → get_or zeros k 0 ≤ 0
-zeros-zero k = go all_kinds k
-  where
-    go : (n k : ℕ) → get_or (replicate n 0) k 0 ≤ 0
-    go zero k = omega arith
-    go (suc n) zero = omega arith
-    go (suc n) (suc k) = go n k
+zeros-zero k = search rules
 
 no-looks : (bottoms : List ℕ) → reserve bottoms [] ≡ 0
 unfolding reserve
@@ -80,17 +76,4 @@ nothing-spent kinds looks low = omega (arith, no-looks (take kinds zeros))
 
 pub holds-nothing : (runs : List PairedRun) (pairs : List Pair) (looks next : ℕ) → PartsHold [] (length pairs) (beginning runs pairs looks next) []
 unfolding events_of NoneOpens
-holds-nothing runs pairs looks next = record {
-  waits = record {
-    stacked = (subst (λ t. StandFor (ends t) []) (sym (drop-all pairs)) reads-none, tt);
-    falling = tt;
-    under = tt;
-    size = refl;
-    low = λ k. (let z = zeros-zero k in omega (arith, z));
-    sound = λ c m h. tt;
-  };
-  marked = tt;
-  under = tt;
-  rising = subst (λ t. Rising 0 (ends t)) (sym (drop-all pairs)) tt;
-  early = omega arith;
-}
+holds-nothing runs pairs looks next = search (rules, drop-all, reads-none, zeros-zero)

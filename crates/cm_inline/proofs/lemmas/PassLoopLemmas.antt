@@ -22,6 +22,7 @@ use Rattle.cm_inline.proofs.lemmas.KeptLemmas.{all-parts, segments-from, segment
 use Rattle.cm_inline.proofs.lemmas.PassLemmas.{beginning, nothing-spent, rising-done, zeros-zero}
 use Rattle.cm_inline.proofs.lemmas.ReachLemmas.{Reached, reached-first, reached-run, reached-end, reached-next, reached-starts, reached-deep, waits-fresh, run-comes, end-stands, end-looks}
 use Rattle.cm_inline.proofs.lemmas.StateLemmas.{ready-raised}
+use Rattle.std.proofs.Common.{rules}
 
 -- the first number that waits from a place on
 abbrev pub first_from : Runs → ℕ → ℕ
@@ -85,10 +86,7 @@ passing-first old openers from more can e k = record {
 
 -- what waits inside is what waits from the place on
 inside-waits : (from : ℕ) (old : Runs) (front inside : List Segment) → WaitFrom from old front inside → drop from old.waiting.items ≡ numbers_in inside
-inside-waits from old front inside a = ap (drop from) a.waiting ∙ go from (numbers_in front) a.place
-  where
-    go : (n : ℕ) (xs : List ℕ) → length xs ≡ n → drop n (xs ++ numbers_in inside) ≡ numbers_in inside
-    go n xs e = drop-append-le n xs (numbers_in inside) (omega (arith, e)) ∙ ap (λ l. l ++ numbers_in inside) (drop_all n xs (omega (arith, e)))
+inside-waits from old front inside a = search (rules, drop-append-le, drop_all)
 
 pub reaching-first : (old : Runs) (openers : Stack) (from : ℕ) (front inside : List Segment) → WaitFrom from old front inside → openers.entries ≡ [] → openers.looks ≡ old.openers.looks
     → Reaching old (record old { openers = openers }) zeros inside (drop from old.waiting.items)
@@ -110,16 +108,7 @@ reaching-first old openers from front inside a e k =
 -- a run
 
 grows-both : (low mid high : ℕ) (a b c : State) → mid ≤ high → Grows low mid a b → Grows low high b c → Grows low high a c
-grows-both low mid high a b c h g f = record {
-  long = f.long ∙ g.long;
-  others = λ k o. f.others k o ∙ g.others k (wider k o);
-  added = g.added ++ f.added;
-  pairs = f.pairs ∙ ap (λ ps. ps ++ f.added) g.pairs ∙ append_assoc a.pairs g.added f.added;
-}
-  where
-    wider : (k : ℕ) → (k < low) ⊎ (high ≤ k) → (k < low) ⊎ (mid ≤ k)
-    wider k (inl o) = inl o
-    wider k (inr o) = inr (omega (arith, o, h))
+grows-both low mid high a b c h g f = search (rules, append_assoc)
 
 same-both : (a b c : List HeldRun) → SameRuns a b → SameRuns b c → SameRuns a c
 same-both a b c s t = record { long = t.long ∙ s.long; same = λ n. ((t.same n).0 ∙ (s.same n).0, (t.same n).1 ∙ (s.same n).1) }

@@ -22,6 +22,7 @@ use Rattle.cm_inline.specs.steps.Reads.{Stands, atom_in, item_for, IsNew, IsAtom
 use Rattle.cm_inline.proofs.lemmas.AllowanceLemmas.{of-append, allowance-more, emphases-more}
 use Rattle.cm_inline.proofs.lemmas.SliceLemmas.{slice-front, before-later, before-one}
 use Rattle.cm_inline.proofs.lemmas.WholeLemmas.{step_at, adds-item, bracket-at, text-pieces, nat_lt-false}
+use Rattle.std.proofs.lemmas.Bool.Decides.{nat_tests}
 
 -- the characters ahead: those of what is read at a place, if it is a run, and those after it
 
@@ -142,14 +143,7 @@ none-in-bracket rules source at stands = ap (λ b. characters_of (run_in (atom_a
 pub closed-pays : (rules : Rules) (defined : Defined) (source : List ℕ) (so_far more : List items.Item) (at end looks later : ℕ) → Stands source at 93 → Pays rules defined source so_far at looks
     → at < end → Keeps looks so_far later more → closed_at rules defined source so_far at ≡ record { items = reverse more; rest = drop end source } → Pays rules defined source more end later
 closed-pays rules defined source so_far more at end looks later stands p further keeps closed =
-    let counts = step-counts rules defined source so_far more at end stands.within further (bracket-at rules defined source so_far at stands ∙ closed) in
-    let same : characters_ahead rules defined source so_far at ≡ characters_ahead rules defined source more end = omega (arith, counts, none-in-bracket rules source at stands) in
-    record {
-      are = keeps.are (kinds_by rules) p.are;
-      paid = closing-pays rules.strike looks later (allowance (kinds_by rules) so_far) (allowance (kinds_by rules) more) (characters_ahead rules defined source more end) (characters_of (runs_of rules defined source))
-          (subst (λ n. looks + allowance (kinds_by rules) so_far + looks_at_most rules * n ≤ looks_at_most rules * characters_of (runs_of rules defined source)) same p.paid) (keeps.paid (kinds_by rules) p.are);
-      made = omega (arith, keeps.made, p.made);
-    }
+    grind (arith, nat_tests, step-counts, bracket-at, none-in-bracket, closing-pays)
 
 -- what is paid for is little
 

@@ -109,10 +109,7 @@ feed-further source at within byte read = λ rules defined.
 -- the items of such a source
 all-items : (source : List ℕ) (at : ℕ) → length source ≤ at → ReadsAsText source at → (rules : Rules) (defined : Defined) → inlines.items_of rules defined source ≡ line_items source
 unfolding inlines.items_of items_after
-all-items source at past read rules defined =
-    ap reverse (read rules defined)
-    ∙ ap (λ t. reverse (items_after rules defined zero (reverse (take at source)) t (reverse (line_items (take at source))))) (drop_all at source past)
-    ∙ reverse-reverse (line_items (take at source)) ∙ ap line_items (take_all at source past)
+all-items source at past read rules defined = grind (arith, nat_tests, drop_all, reverse-reverse, take_all)
 
 -- nothing among them pairs
 none-pairs : (text : List ℕ) (before : List Item) → pair_leftmost before (line_items text) ≡ None

@@ -63,22 +63,19 @@ parts-more done s = parts-join done (s ∷ []) ∙ ap (λ t. all_parts done ++ t
 pub reached-made : (looks : ℕ) (inside : List Segment) (s : State) (done ahead : List Segment) (before : List Item) (parts : List Part) (item : Item) (high : ℕ) → Reached looks inside s done (Made parts item high ∷ ahead) before
     → Reached looks inside (with_next high s) (done ++ Made parts item high ∷ []) ahead (item ∷ before)
 unfolding items_in pass_from
-reached-made looks inside s done ahead before parts item high r = record {
-  whole = r.whole ∙ sym (append_assoc done (Made parts item high ∷ []) ahead);
-  holds = subst (λ ms. PartsHold ms (length s.pairs) (with_next high s) (item ∷ before)) (sym (parts-more done (Made parts item high))) (pass-made (all_parts done) parts item high s before r.holds m rising);
-  segments = r.segments.1;
-  runs = r.runs;
-  passes = ap (λ b. pass_from b (items_in ahead)) (sym (not-run before item m.other)) ∙ r.passes;
-  are = λ kinds a. (r.are kinds a).1;
-  paid = λ kinds a. omega (arith, r.paid kinds a, sum_by-cons (allowed kinds) item (items_in ahead));
-  made = omega (arith, r.made);
-}
-  where
-    m : IsMade s.runs s.pairs s.list.next parts item high
-    m = r.segments.0
-
-    rising : Rising 0 (events_of s.runs s.pairs (all_parts done) ++ events_of s.runs s.pairs parts)
-    rising = rising-join 0 s.list.next (events_of s.runs s.pairs (all_parts done)) (events_of s.runs s.pairs parts) (omega arith) (rising-done (all_parts done) s before r.holds) (low-parts s.list.next s.runs s.pairs (all_parts done) r.holds.under r.holds.marked) m.rising
+reached-made looks inside s done ahead before parts item high r =
+    let m = r.segments.0 in
+    let rising = rising-join 0 s.list.next (events_of s.runs s.pairs (all_parts done)) (events_of s.runs s.pairs parts) (omega arith) (rising-done (all_parts done) s before r.holds) (low-parts s.list.next s.runs s.pairs (all_parts done) r.holds.under r.holds.marked) m.rising in
+    record {
+      whole = r.whole ∙ sym (append_assoc done (Made parts item high ∷ []) ahead);
+      holds = subst (λ ms. PartsHold ms (length s.pairs) (with_next high s) (item ∷ before)) (sym (parts-more done (Made parts item high))) (pass-made (all_parts done) parts item high s before r.holds m rising);
+      segments = r.segments.1;
+      runs = r.runs;
+      passes = ap (λ b. pass_from b (items_in ahead)) (sym (not-run before item m.other)) ∙ r.passes;
+      are = λ kinds a. (r.are kinds a).1;
+      paid = λ kinds a. omega (arith, r.paid kinds a, sum_by-cons (allowed kinds) item (items_in ahead));
+      made = omega (arith, r.made);
+    }
 
 -- The pass comes to the next number that waits, past those that are made.
 pub record AtRun (looks : ℕ) (inside : List Segment) (s : State) (number : ℕ) (numbers : List ℕ) : Type 0 where

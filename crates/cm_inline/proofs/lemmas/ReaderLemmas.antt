@@ -49,10 +49,12 @@ use Rattle.cm_inline.specs.steps.pairing.States.{no_run}
 use Rattle.cm_inline.specs.steps.pairing.Segments.{fresh}
 use Rattle.cm_inline.specs.steps.pairing.Events.{Rest}
 use Rattle.cm_inline.specs.steps.Runs.{paired_run}
-use Rattle.cm_inline.proofs.lemmas.StandLemmas.{events-more, segments-parts, text-stands, cut-stands, opener-stands, inline-stands, known-made, texts-known, texts-stand, stays-any, AreKnown, runs-append}
+use Rattle.cm_inline.proofs.lemmas.StandLemmas.{events-more, text-stands, cut-stands, opener-stands, inline-stands, known-made, texts-known, texts-stand, stays-any, AreKnown, runs-append}
 use Rattle.cm_inline.proofs.lemmas.CallerLemmas.{behind-append, segments-append, segments-push, chained-none, chained-push}
 use Rattle.cm_inline.proofs.lemmas.WholeLemmas.{ahead-start, ahead-text, ahead-atom}
 use Rattle.cm_inline.proofs.lemmas.LaidLemmas.{events-append}
+use Rattle.cm_inline.proofs.lemmas.KeptLemmas.{segments-parts}
+use Rattle.std.proofs.Common.{rules}
 
 -- between a place and itself there is no text
 pub none-laid : (lines : Bool) (source : List ℕ) (at : ℕ) → IsCharBoundary source at → IsUnmarked lines source at at
@@ -60,8 +62,7 @@ none-laid lines source at boundary = record { between = (omega arith, boundary, 
 
 -- views that are the same in each part
 pub same-view : (v w : View) → v.lines ≡ w.lines → v.marks ≡ w.marks → v.runs ≡ w.runs → v.waiting ≡ w.waiting → v.pairs ≡ w.pairs → v.links ≡ w.links → v.links_end ≡ w.links_end → v.ends ≡ w.ends → v ≡ w
-same-view v w lines marks runs waiting pairs links links_end ends =
-    λ i. record { lines = lines i; marks = marks i; runs = runs i; waiting = waiting i; pairs = pairs i; links = links i; links_end = links_end i; ends = ends i }
+same-view v w lines marks runs waiting pairs links links_end ends = search rules
 
 abbrev pub fresh_view : Bool → MissingEnds → View
 fresh_view lines ends = record { lines = lines; marks = []; runs = []; waiting = []; pairs = []; links = []; links_end = 0; ends = ends }
@@ -137,22 +138,7 @@ module _ (source : List ℕ) (targets : Targets) (v : View) (bs : List Bracket) 
 
   pub made-read : (now : List Bracket) (marks : List Mark) → AreOpen (leaf_of source targets v) now (segments ++ more) (v.marks ++ marks) end false → IsRead source targets end (more_view v marks ends) now (segments ++ more)
   unfolding all_parts numbers_in number_after
-  made-read now marks are = record {
-    short = r.short;
-    utf8 = r.utf8;
-    boundary = boundary;
-    knows = knows;
-    open_are = are;
-    segments_are = segments-append 0 (runs_in v.runs) (pairs_in v.pairs) segments more r.segments_are (known-made (runs_in v.runs) (pairs_in v.pairs) (number_after 0 segments) parts item known other stands, tt);
-    runs_are = runs-append segments more r.runs_are tt;
-    waiting = r.waiting ∙ sym (append-nil (numbers_in segments)) ∙ sym (numbers-append segments more);
-    chained = r.chained;
-    links_low = omega (arith, r.links_low, length-append v.marks marks);
-    few_runs = omega (arith, r.few_runs, further);
-    few_links = omega (arith, r.few_links, further);
-    high = subst (λ n. n ≤ length v.runs) (sym (behind-append 0 segments more)) r.high;
-    starts = omega (arith, r.starts, starts-more (runs_in v.runs) (pairs_in v.pairs) segments more, ap (λ t. starts_in (events_of (runs_in v.runs) (pairs_in v.pairs) t)) (append-nil parts), no_start);
-  }
+  made-read now marks are = grind (arith, nat_tests, segments-append, known-made, runs-append, append-nil, numbers-append, length-append, behind-append, starts-more)
 
 pub more-read : (source : List ℕ) (targets : Targets) (v : View) (bs : List Bracket) (segments : List Segment) (at end : ℕ) (marks : List Mark) (parts : List Part) (item : Item) (ends : MissingEnds) → AreMore source targets v at end marks parts item → Knows source ends
     → IsRead source targets at v bs segments → IsRead source targets end (more_view v marks ends) bs (segments ++ Made parts item (number_after 0 segments) ∷ [])
@@ -191,9 +177,7 @@ module _ (source : List ℕ) (targets : Targets) (v : View) (at end : ℕ) (star
   -- text, of which each byte stays text
   text-more : list_all (stays_text true) (slice_range source at end) ≡ true → More [] (texts (slice_range source at end)) (Characters (slice_range source at end))
   unfolding parts_between
-  text-more stays =
-      let text = slice_range source at end in
-      more-by [] (texts text) (Characters text) (record { between = (low, start, boundary); text = stays-any v.lines text stays }) refl (texts-known text) (refl, refl, refl) (texts-stand runs_v pairs_v text stays) (texts-start runs_v pairs_v text)
+  text-more stays = search (rules, more-by, stays-any, texts-known, texts-stand, texts-start)
 
   -- one mark of a known event
   one-more : (kind : Kind) (e : Event) (item : Item) → part_of_kind source targets v.links at end kind ≡ Known (e ∷ []) → IsOfKind source targets v.runs v.links at end kind → IsNoRun e → starts_in (e ∷ []) ≡ 0
@@ -345,12 +329,7 @@ run_view v at end run ends = record {
 }
 
 marker-marked : (run : DelimiterRun) → IsMarked (run_of run)
-marker-marked run = go run.marker
-  where
-    go : (m : Marker) → (byte_of m ≡ 42) ⊎ (byte_of m ≡ 95) ⊎ (byte_of m ≡ 126)
-    go Marker.Star = inl refl
-    go Marker.Underscore = inr (inl refl)
-    go Marker.Tilde = inr (inr refl)
+marker-marked run = search rules
 
 module _ (source : List ℕ) (targets : Targets) (v : View) (bs : List Bracket) (segments : List Segment) (at end : ℕ) (run : DelimiterRun) (ends : MissingEnds) (start : IsCharBoundary source at) (further : at < end)
     (boundary : IsCharBoundary source end) (there : IsThere source at end (atoms.Run run)) (some : 1 ≤ run.left) (knows : Knows source ends) (r : IsRead source targets at v bs segments) where
@@ -371,15 +350,7 @@ module _ (source : List ℕ) (targets : Targets) (v : View) (bs : List Bracket) 
 
   run-closed : AreClosed run_leaf at end one_run (mark_at at end (kinds.Run (length v.runs)) ∷ [])
   unfolding all_parts items_in has_opener
-  run-closed =
-      let low : at ≤ end = omega (arith, further) in
-      let is = get_or_push v.runs held_run no_run (length v.runs) refl in
-      let within : length v.runs < length with_run.runs = omega (arith, length-append v.runs (held_run ∷ [])) in
-      record {
-        parts = sym (parts-one v.lines source targets with_run.runs v.links (mark_at at end (kinds.Run (length v.runs))));
-        laid = (none-laid v.lines source at start, (low, start, boundary), (within, there ∙ ap (λ (x : HeldRun). replicate x.run.whole (byte_of x.run.marker)) (sym is)), none-laid v.lines source end boundary);
-        none = refl;
-      }
+  run-closed = search (rules, get_or_push, length-append, parts-one, none-laid)
 
   run-later : AreOpen run_leaf bs segments v.marks at false
   run-later =
@@ -392,38 +363,12 @@ module _ (source : List ℕ) (targets : Targets) (v : View) (bs : List Bracket) 
 
   run-starts : starts_in (events_for with_run (segments ++ one_run)) ≡ starts_in (events_for v segments)
   unfolding all_parts events_of
-  run-starts =
-      let runs = runs_in with_run.runs in
-      let pairs = pairs_in v.pairs in
-      let more = fresh (run_of run) ∷ [] in
-      let old : events_of runs pairs (all_parts segments) ≡ events_for v segments =
-      ap (λ t. events_of t pairs (all_parts segments)) runs-are ∙ events-more (runs_in v.runs) more pairs (all_parts segments) (segments-parts (runs_in v.runs) pairs 0 segments r.segments_are) in
-      let is : get_or runs (length v.runs) no_paired_run ≡ fresh (run_of run) =
-      ap (λ t. get_or t (length v.runs) no_paired_run) runs-are ∙ get_or_push (runs_in v.runs) (fresh (run_of run)) no_paired_run (length v.runs) (length-map v.runs paired_run) in
-      let none : starts_in (events_of runs pairs (Numbered (length v.runs) ∷ [])) ≡ 0 =
-      ap (λ x. starts_in (run_events pairs (length v.runs) x ++ [])) is ∙ ap (λ t. starts_in (Rest (length v.runs) (run_of run) ∷ t ++ [])) (chain-zero (reverse pairs)) in
-      omega (arith, starts-more runs pairs segments one_run, ap starts_in old, none)
+  run-starts = search (rules, runs-are, events-more, segments-parts, get_or_push, length-map, chain-zero, starts-more)
 
   pub run-read : IsRead source targets end with_run bs (segments ++ one_run)
   unfolding numbers_in number_after
-  run-read = record {
-    short = r.short;
-    utf8 = r.utf8;
-    boundary = boundary;
-    knows = knows;
-    open_are = run-open;
-    segments_are = subst (λ n. AreSegments (runs_in with_run.runs) (pairs_in v.pairs) 0 (segments ++ Waiting n (run_of run) ∷ [])) (length-map v.runs paired_run)
-        (subst (λ t. AreSegments t (pairs_in v.pairs) 0 (segments ++ Waiting (length (runs_in v.runs)) (run_of run) ∷ [])) (sym runs-are)
-        (segments-push (runs_in v.runs) (pairs_in v.pairs) (run_of run) segments (omega (arith, r.high, length-map v.runs paired_run)) r.segments_are));
-    runs_are = runs-append segments one_run r.runs_are (marker-marked run, some, tt);
-    waiting = ap (λ t. t ++ length v.runs ∷ []) r.waiting ∙ sym (numbers-append segments one_run);
-    chained = subst (λ t. AreChained t (pairs_in v.pairs)) (sym runs-are) (chained-push (runs_in v.runs) (pairs_in v.pairs) (run_of run) r.chained);
-    links_low = omega (arith, r.links_low, length-append v.marks (mark_at at end (kinds.Run (length v.runs)) ∷ []));
-    few_runs = omega (arith, r.few_runs, further, length-append v.runs (held_run ∷ []));
-    few_links = omega (arith, r.few_links, further);
-    high = omega (arith, behind-append 0 segments one_run, length-append v.runs (held_run ∷ []));
-    starts = omega (arith, r.starts, run-starts);
-  }
+  run-read =
+      grind (arith, nat_tests, run-open, length-map, runs-are, segments-push, runs-append, marker-marked, numbers-append, chained-push, length-append, behind-append, run-starts)
 
 -- A bracket more, which is open.
 abbrev pub bracket_view : View → (at end : ℕ) → MissingEnds → View

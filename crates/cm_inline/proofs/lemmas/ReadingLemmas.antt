@@ -18,6 +18,7 @@ use Rattle.cm_inline.specs.steps.pairing.Events.{Event, Text, Rest, Whole, Tag, 
 use Rattle.cm_inline.proofs.lemmas.EventLemmas.{means-append, means-none, means-rest, means-empty, means-wrap, tag-makes}
 use Rattle.cm_inline.specs.steps.pairing.Readings.{start_html, end_html, Tags, Alternative, is_number, mode_of, Page, page, write, write_all, item_html, item_plain, AreFree, IsAlone, Writes, deepest, Nests, starts_in, IsNear, StandFor}
 use Rattle.cm_inline.proofs.lemmas.WriteLemmas.{write-append}
+use Rattle.std.proofs.Common.{rules}
 
 free-split : (n : ℕ) (fs gs : List Event) → AreFree n (fs ++ gs) → AreFree n fs × AreFree n gs
 free-split n [] gs h = (tt, h)
@@ -85,9 +86,7 @@ image-is : (dest title : List ℕ) (content : List Inline) → (rendered (inline
 image-is dest title content = simp (fold_out-Inline Rendered inline_step, outs-Image)
 
 image-html : (number : ℕ) (dest title : List ℕ) (content : List Inline) → (rendered (inlines.Image dest title content)).html ≡ start_html (LinkTag number true dest title) ++ escape (plain_of content) ++ end_html (LinkTag number true dest title)
-image-html number dest title content =
-    let a = image_start dest ++ escape (plain_of content) in
-    image-is dest title content ∙ append_assoc (a ++ codes "\"") (title_html title) (codes " />") ∙ append_assoc a (codes "\"") (title_html title ++ codes " />") ∙ ap (λ t. a ++ t) (sym (append_assoc (codes "\"") (title_html title) (codes " />")))
+image-html number dest title content = search (rules, image-is, append_assoc)
 
 made-plain : (tag : Tag) (content : List Inline) → (rendered (made_of tag content)).plain ≡ plain_of content
 made-plain Emphasis content = simp (fold_out-Inline Rendered inline_step, outs-Emph)
@@ -136,9 +135,7 @@ writes-wrap fs inside tag w alone = record { tags = tags tag alone; alternative 
 -- and how deep
 
 pub nests-append : (fs gs : List Event) (xs ys : List Item) → Nests fs xs → Nests gs ys → Nests (fs ++ gs) (xs ++ ys)
-nests-append fs gs xs ys f g depth most more h =
-    ap (deepest depth most) (append_assoc fs gs more) ∙ f depth most (gs ++ more) h ∙ g depth (max most (depth + items_depth xs)) more (omega (arith, h))
-    ∙ ap (λ n. deepest depth n more) (omega (arith, both xs ys))
+nests-append fs gs xs ys f g depth most more h = search (rules, append_assoc, both)
 
 made-depth : (tag : Tag) (content : List Inline) → depth_of (made_of tag content) ≡ inlines_depth content + 1
 made-depth Emphasis content = simp (fold_out-Inline ℕ depth_step, outs-Emph)
@@ -149,12 +146,7 @@ made-depth (LinkTag number true dest title) content = simp (fold_out-Inline ℕ 
 
 pub nests-wrap : (fs : List Event) (inside : List Item) (tag : Tag) → Nests fs inside → Nests (Start tag ∷ fs ++ End tag ∷ []) (Finished (made_of tag (settled inside)) ∷ [])
 unfolding deepest
-nests-wrap fs inside tag w depth most more h =
-    let inner = max (max most (depth + 1)) (depth + 1 + items_depth inside) in
-    ap (λ t. deepest (depth + 1) (max most (depth + 1)) t) (append_assoc fs (End tag ∷ []) more) ∙ w (depth + 1) (max most (depth + 1)) (End tag ∷ more) (omega arith)
-    ∙ cond-false (depth + 1 == 0) None (deepest (depth + 1 - 1) inner more) (ne_eqb (depth + 1) 0 (λ e. absurd (omega (arith, e))))
-    ∙ ap (λ n. deepest n inner more) (omega arith)
-    ∙ ap (λ n. deepest depth n more) (omega (arith, made-depth tag (settled inside), settled-after-depth [] inside))
+nests-wrap fs inside tag w depth most more h = search (rules, append_assoc, cond-false, ne_eqb, made-depth, settled-after-depth)
 
 -- so nothing ends that isn't open, and the greatest depth is that of the inlines
 pub nests-all : (fs : List Event) (items : List Item) → Nests fs items → deepest 0 0 fs ≡ Some (inlines_depth (settled items))
@@ -175,56 +167,25 @@ near-wrap fs inside tag n = record { bound = omega (arith, n.bound, starts-appen
 -- all readings together
 
 pub reads-append : (fs gs : List Event) (xs ys : List Item) → StandFor fs xs → StandFor gs ys → StandFor (fs ++ gs) (xs ++ ys)
-reads-append fs gs xs ys f g = record {
-  means = means-append fs gs xs ys f.means g.means;
-  writes = writes-append fs gs xs ys f.writes g.writes;
-  nests = nests-append fs gs xs ys f.nests g.nests;
-  near = near-append fs gs xs ys f.near g.near;
-}
+reads-append fs gs xs ys f g = search (rules, means-append, writes-append, nests-append, near-append)
 
 no-more : (depth most : ℕ) → depth ≤ most → most ≡ max most (depth + 0)
 no-more depth most h = omega (arith, h)
 
 pub reads-none : StandFor [] []
 unfolding write_all
-reads-none = record {
-  means = means-none;
-  writes = record { tags = λ html. ap (λ t. page t Tags) (sym (append-nil html)); alternative = λ html n free. ap (λ t. page t (Alternative n)) (sym (append-nil html)) };
-  nests = λ depth most more h. ap (λ n. deepest depth n more) (no-more depth most h);
-  near = record { bound = omega arith };
-}
+reads-none = search rules
 
 pub reads-rest : (number : ℕ) (r : Run) → StandFor (Rest number r ∷ []) (Delimiters r ∷ [])
 unfolding write_all deepest
-reads-rest number r = record {
-  means = means-rest number r;
-  writes = record {
-    tags = λ html. ap (λ t. page (html ++ t) Tags) (sym (append-nil (escape (replicate r.left r.character))));
-    alternative = λ html n free. ap (λ t. page (html ++ t) (Alternative n)) (sym (append-nil (escape (replicate r.left r.character))));
-  };
-  nests = λ depth most more h. ap (λ n. deepest depth n more) (no-more depth most h);
-  near = record { bound = omega arith };
-}
+reads-rest number r = search (rules, means-rest, append-nil, no-more)
 
 pub reads-empty : (number : ℕ) (r : Run) → r.left ≡ zero → StandFor (Rest number r ∷ []) []
 unfolding write_all deepest
-reads-empty number r e = record {
-  means = means-empty number r e;
-  writes = record {
-    tags = λ html. ap (λ n. page (html ++ escape (replicate n r.character)) Tags) e;
-    alternative = λ html n free. ap (λ k. page (html ++ escape (replicate k r.character)) (Alternative n)) e;
-  };
-  nests = λ depth most more h. ap (λ n. deepest depth n more) (no-more depth most h);
-  near = record { bound = omega arith };
-}
+reads-empty number r e = search (rules, means-empty, no-more)
 
 pub reads-wrap : (fs : List Event) (inside : List Item) (tag : Tag) → StandFor fs inside → IsAlone tag fs → StandFor (Start tag ∷ fs ++ End tag ∷ []) (Finished (made_of tag (settled inside)) ∷ [])
-reads-wrap fs inside tag r alone = record {
-  means = means-wrap fs inside tag r.means;
-  writes = writes-wrap fs inside tag r.writes alone;
-  nests = nests-wrap fs inside tag r.nests;
-  near = near-wrap fs inside tag r.near;
-}
+reads-wrap fs inside tag r alone = search (rules, means-wrap, writes-wrap, nests-wrap, near-wrap)
 
 pub reads-pair : (fs : List Event) (inside : List Item) (character count : ℕ) → StandFor fs inside
     → StandFor (Start (tag_of character count) ∷ fs ++ End (tag_of character count) ∷ []) (Finished (emphasised character count (settled inside)) ∷ [])

@@ -31,8 +31,10 @@ use Rattle.cm_inline.proofs.lemmas.OpenLemmas.{open-more, items-append, all_part
 use Rattle.cm_inline.proofs.lemmas.PaysLemmas.{closed-pays}
 use Rattle.cm_inline.proofs.lemmas.ReaderLemmas.{IsText, text_segment, text-read, text-items, none-laid}
 use Rattle.cm_inline.proofs.lemmas.SliceLemmas.{slice-none, one-slice}
-use Rattle.cm_inline.proofs.lemmas.StandLemmas.{segments-split, runs-split, runs-append, text-stands}
+use Rattle.cm_inline.proofs.lemmas.StandLemmas.{runs-split, runs-append, text-stands}
 use Rattle.cm_inline.proofs.lemmas.WholeLemmas.{ahead-bracket}
+use Rattle.cm_inline.proofs.lemmas.KeptLemmas.{segments-split}
+use Rattle.std.proofs.Common.{rules}
 
 -- a `]` as text
 bracket-slice : (source : List ℕ) (at : ℕ) → Stands source at 93 → slice_range source at (at + 1) ≡ 93 ∷ []
@@ -77,9 +79,7 @@ nothing-closes rules source targets at old new stands none still view looks g =
 
 -- The last open bracket becomes text.
 opener-text : (source : List ℕ) (image : Bool) (at behind : ℕ) → IsOpener source image at behind → slice_range source at behind ≡ bracket_text image
-opener-text source image at behind o =
-    let size : behind - at ≡ length (bracket_text image) = omega (arith, o.place) in
-    ap (λ n. take n (drop at source)) size ∙ ap (take (length (bracket_text image))) o.front ∙ take-append_seam (bracket_text image) (drop behind source)
+opener-text source image at behind o = search rules
 
 opener-stays : (image : Bool) → list_all (stays_text false) (bracket_text image) ≡ true
 opener-stays true = refl
@@ -92,16 +92,7 @@ left_segment b high = Made (Known (Text (bracket_text b.image) ∷ []) ∷ []) (
 pub bracket-closed : (leaf : MarkedLeaf) (b : Bracket) (at to high : ℕ) (inside : List Segment) (late : List Mark) → IsOpener leaf.source b.image at b.end → AreClosed leaf b.end to inside late
     → AreClosed leaf at to (left_segment b high ∷ inside) (mark_at at b.end kinds.Plain ∷ late)
 unfolding all_parts items_in has_opener parts_between
-bracket-closed leaf b at to high inside late bracket closed =
-    let source = leaf.source in
-    let between = parts_between source leaf.targets leaf.links in
-    let text = opener-text source b.image at b.end bracket in
-    record {
-      parts = ap (λ t. Known (Text (bracket_text b.image) ∷ []) ∷ t) closed.parts ∙ ap (λ t. Known (Text t ∷ []) ∷ between b.end to late) (sym text)
-          ∙ ap (λ t. texts t ++ part_of source leaf.targets leaf.links (mark_at at b.end kinds.Plain) ∷ between b.end to late) (sym (slice-none source at));
-      laid = (none-laid leaf.lines source at bracket.start, (omega (arith, bracket.place), bracket.start, bracket.end), ap (list_all (stays_text false)) text ∙ opener-stays b.image, closed.laid);
-      none = closed.none;
-    }
+bracket-closed leaf b at to high inside late bracket closed = search rules
 
 module _ (source : List ℕ) (targets : Targets) (at : ℕ) (v : View) (b : Bracket) (bs : List Bracket) (segments : List Segment) (r : IsRead source targets at v (b ∷ bs) segments) where
   abbrev leaf : MarkedLeaf
@@ -152,7 +143,7 @@ module _ (source : List ℕ) (targets : Targets) (at : ℕ) (v : View) (b : Brac
 
   -- the segments before it, itself and those behind it
   pub both : AreSegments runs pairs 0 front × AreSegments runs pairs (number_after 0 front) (opened source b level.high ∷ inside)
-  both = segments-split runs pairs 0 front (opened source b level.high ∷ inside) (subst (AreSegments runs pairs 0) level.whole r.segments_are)
+  both = segments-split 0 runs pairs front (opened source b level.high ∷ inside) (subst (AreSegments runs pairs 0) level.whole r.segments_are)
 
   left-segments : AreSegments runs pairs 0 (front ++ left)
   unfolding events_of

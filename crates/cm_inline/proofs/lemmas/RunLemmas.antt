@@ -13,6 +13,7 @@ use Rattle.cm_inline.proofs.lemmas.HtmlLemmas.{run-html}
 use Rattle.cm_inline.proofs.lemmas.TagLemmas.{length-pairs}
 use Rattle.cm_inline.proofs.lemmas.WriteLemmas.{write-append}
 use Rattle.std.proofs.lemmas.List.{get_or-map}
+use Rattle.std.proofs.Common.{rules}
 
 -- the pairs that a run knows of are there
 pub record RunKnown (pairs : List made.Pair) (r : held.Run) : Type 0 where
@@ -32,10 +33,4 @@ pub run-written : (pairs first second : List made.Pair) (number : ℕ) (r : held
     → Adds Tags html (ends_between (pairs_in first) r.from r.to) ended → left ≡ ended ++ replicate r.run.left (byte_of r.run.marker) → Adds Tags left (starts (pairs_in second) r.opened) new
     → Adds Tags html (run_events (pairs_in pairs) number (paired_run r)) new
 unfolding write_all
-run-written pairs first second number r html ended left new same again ends rest opened =
-    let list = pairs_in pairs in
-    write-append (page html Tags) (ends_between list r.from r.to) (Rest number (run_of r.run) ∷ starts list r.opened)
-    ∙ ap (λ p. write_all p (Rest number (run_of r.run) ∷ starts list r.opened)) (ap (λ ps. write_all (page html Tags) (ends_between (pairs_in ps) r.from r.to)) (sym same) ∙ ends)
-    ∙ ap (λ t. write_all (page (ended ++ t) Tags) (starts list r.opened)) (run-html r.run.marker r.run.left)
-    ∙ ap (λ t. write_all (page t Tags) (starts list r.opened)) (sym rest)
-    ∙ ap (λ ps. write_all (page left Tags) (starts (pairs_in ps) r.opened)) (sym again) ∙ opened
+run-written pairs first second number r html ended left new same again ends rest opened = search (rules, write-append, run-html)

@@ -10,15 +10,7 @@ use Rattle.cm_inline.proofs.lemmas.BottomLemmas.{kind-match}
 use Rattle.cm_inline.proofs.lemmas.ReserveLemmas.{above-cons}
 use Rattle.cm_inline.proofs.lemmas.NumberLemmas.{nat-split as nat_split}
 
--- what a search finds: the entries passed, and the opener
-pub record Found (c : Run) (es : List Entry) (e : Entry) : Type 0 where
-  pub passed : List Entry
-  pub below : List Entry
-  pub whole : es ≡ passed ++ e ∷ below
-  pub none : NoneAnswers c passed
-  pub opens : answers c e ≡ true
-
--- and how many looks it takes
+-- what a search finds: the entries passed, the opener, and how many looks it takes
 pub record FoundBy (c : Run) (bottom : ℕ) (es : List Entry) (e : Entry) : Type 0 where
   pub passed : List Entry
   pub below : List Entry

@@ -17,6 +17,7 @@ use Rattle.cm_inline.proofs.lemmas.StackLemmas.{holds-append}
 use Rattle.cm_inline.proofs.lemmas.WaitLemmas.{waits-others}
 use Rattle.cm_inline.proofs.lemmas.LaidLemmas.{events-append}
 use Rattle.cm_inline.proofs.lemmas.SearchLemmas.{below-more}
+use Rattle.std.proofs.Common.{rules}
 
 -- the last entry holds for the run that it is of
 stacked-means : (es : List Entry) (fs : List Event) (items : List Item) → Stacked es fs items → StandFor fs (reverse items)
@@ -28,9 +29,7 @@ stacked-means (e ∷ es) fs items s =
 
 -- at the end of a pass the parts stand for what the items come to
 pub pass-means : (parts : List Part) (s : State) (before : List Item) → PartsHold parts (length s.pairs) s before → StandFor (events_of s.runs s.pairs parts) (reverse before)
-pass-means parts s before w =
-    subst (λ fs. StandFor fs (reverse before)) (ap (λ t. events_of s.runs s.pairs parts ++ ends t) (drop-all s.pairs) ∙ append-nil (events_of s.runs s.pairs parts))
-    (stacked-means s.list.entries (so_far parts (length s.pairs) s) before w.waits.stacked)
+pass-means parts s before w = search (rules, drop-all, append-nil, stacked-means)
 
 pub pass-pairs : (parts : List Part) (s : State) (items before : List Item) → PartsHold parts (length s.pairs) s before → reverse before ≡ pass_from [] items → StandFor (events_of s.runs s.pairs parts) (pair_all items)
 pass-pairs parts s items before w h = subst (StandFor (events_of s.runs s.pairs parts)) (h ∙ sym (pairs_in_one_pass items)) (pass-means parts s before w)
@@ -50,14 +49,7 @@ none _ h = (refl, tt)
 
 -- the next number may be a higher one
 pub waits-raised : {fs : List Event} {before : List Item} {l : Listed} {bs : List ℕ} (n : ℕ) → l.next ≤ n → WaitAsOpeners fs before l bs → WaitAsOpeners fs before (record l { next = n }) bs
-waits-raised {fs} {before} {l} {bs} n h w = record {
-  stacked = w.stacked;
-  falling = w.falling;
-  under = below-more l.next n l.entries h w.under;
-  size = w.size;
-  low = λ k. (let q : get_or bs k 0 ≤ l.next = w.low k in omega (arith, q, h));
-  sound = w.sound;
-}
+waits-raised {fs} {before} {l} {bs} n h w = search (rules, below-more)
 
 -- A made item's parts go behind those that the pass has come to.
 pub pass-made : (done ms : List Part) (item : Item) (high : ℕ) (s : State) (before : List Item) → PartsHold done (length s.pairs) s before → IsMade s.runs s.pairs s.list.next ms item high

@@ -2,6 +2,7 @@
 use Rattle.std.proofs.Common.{◌≡◌, ℕ, ◌+◌, ◌-◌, ◌<◌, ◌≤◌, List, [], ◌∷◌, ◌++◌, length, take, drop, get_or, reverse, sym, ap, ◌∙◌, arith, drop-drop, take-add}
 use Rattle.std.specs.List.{slice_range}
 use Rattle.std.proofs.lemmas.List.{reverse-append, drop_more, take-append-drop}
+use Rattle.std.proofs.Common.{rules}
 
 -- the source between two places
 pub slice-front : (source : List ℕ) (at end : ℕ) → at ≤ end → drop at source ≡ slice_range source at end ++ drop end source
@@ -16,9 +17,7 @@ before-later source at end low =
     ap (λ n. reverse (take n source)) (sym place) ∙ ap reverse (take-add at (end - at) source) ∙ reverse-append (take at source) (slice_range source at end)
 
 pub one-slice : (source : List ℕ) (at : ℕ) → at < length source → slice_range source at (at + 1) ≡ get_or source at 0 ∷ []
-one-slice source at within =
-    let one : at + 1 - at ≡ 1 = omega arith in
-    ap (λ n. take n (drop at source)) one ∙ ap (take 1) (drop_more source at 0 within)
+one-slice source at within = search (rules, drop_more)
 
 -- what was read up to a place, and the byte there
 pub before-one : (source : List ℕ) (at end : ℕ) → at < end → at < length source → reverse (slice_range source (at + 1) end) ++ get_or source at 0 ∷ reverse (take at source) ≡ reverse (take end source)

@@ -13,6 +13,7 @@ use Rattle.cm_inline.specs.steps.pairing.Events.{Event, Rest, Tag, Start, End, t
 use Rattle.cm_inline.specs.steps.pairing.Readings.{StandFor}
 use Rattle.cm_inline.specs.steps.pairing.Stacks.{NoneOpens, Stacked, taken, rest_of}
 use Rattle.cm_inline.proofs.lemmas.ReadingLemmas.{reads-append, reads-none, reads-rest, reads-empty, reads-pair}
+use Rattle.std.proofs.Common.{rules}
 
 -- items with the last first
 pub holds-append : (fs gs : List Event) (items more : List Item) → StandFor fs (reverse items) → StandFor gs (reverse more) → StandFor (fs ++ gs) (reverse (more ++ items))
@@ -119,10 +120,7 @@ without-reversed : (n : ℕ) (r : Run) → reverse (without n r) ≡ without n r
 without-reversed n r = elim (nat_le r.left n) as (λ b. reverse (cond b [] (Delimiters (taken n r) ∷ [])) ≡ cond b [] (Delimiters (taken n r) ∷ [])) [ true ↦ refl | false ↦ refl ]
 
 pub pair-items : (c o : Run) (low inside : List Item) → reverse (up_to_pair (opened_at o low (reverse inside)) c) ≡ pair_items c o low inside
-pair-items c o low inside =
-    let made = Finished (emphasised c.character (used o c) (settled (reverse inside))) in
-    reverse-append (reverse low ++ without (used o c) o) (made ∷ [])
-    ∙ ap (λ t. made ∷ t) (reverse-append (reverse low) (without (used o c) o) ∙ ap (λ t. t ++ reverse (reverse low)) (without-reversed (used o c) o) ∙ ap (λ t. without (used o c) o ++ t) (reverse-reverse low))
+pair-items c o low inside = search (rules, reverse-append, without-reversed, reverse-reverse)
 
 pub pair-stacked : (c : Run) (e : Entry) (below : List Entry) (fs : List Event) (items : List Item) (f : Found c e below fs items) →
     Stacked (rest_of (used e.run c) e ++ below) (pair_events c e below fs items f) (pair_items c e.run f.low f.inside)

@@ -19,6 +19,8 @@ use Rattle.cm_scan.specs.spans.CodeSpans.{up_to_run, as_written, spanned_as_writ
 use Rattle.cm_scan.proofs.lemmas.texts.WordsGoOn.{none-some}
 use Rattle.cm_scan.proofs.lemmas.texts.ScannerAnswers.{begins-at}
 use Rattle.cm_inline.specs.steps.Standalone.{IsBetween}
+use Rattle.std.proofs.Common.{rules}
+use Rattle.std.proofs.lemmas.Bool.Decides.{nat_tests}
 
 -- what is before the next run is the front of the text, and a backtick is after it
 
@@ -101,28 +103,11 @@ one-word c (b ∷ bs) rest e = go (b == c) refl e
 
 angled : (text : List ℕ) (r : Reading) → in_angles text ≡ Some r → text ≡ 60 ∷ (r.text ++ 62 ∷ r.rest)
 unfolding in_angles
-angled text r e = go (after_word (codes "<") text) refl e
-  where
-    close : (inside : List ℕ) (o : Option (List ℕ)) → after_word (codes ">") (skip is_inside inside) ≡ o → ended (front_of is_inside inside) o ≡ Some r → inside ≡ r.text ++ 62 ∷ r.rest
-    close inside None is h = none-some h
-    close inside (Some rest) is h =
-        sym (front-skip is_inside inside) ∙ ap (λ t. front_of is_inside inside ++ t) (one-word 62 (skip is_inside inside) rest is)
-        ∙ ap (λ (s : Reading). s.text ++ 62 ∷ s.rest) (same_Some (record { text = front_of is_inside inside; rest = rest }) r h)
-
-    go : (o : Option (List ℕ)) → after_word (codes "<") text ≡ o
-        → (elim o as (λ _. Option Reading) [ Some inside ↦ ended (front_of is_inside inside) (after_word (codes ">") (skip is_inside inside)) | None ↦ None ]) ≡ Some r → text ≡ 60 ∷ (r.text ++ 62 ∷ r.rest)
-    go None is h = none-some h
-    go (Some inside) is h = one-word 60 text inside is ∙ ap (λ t. 60 ∷ t) (close inside (after_word (codes ">") (skip is_inside inside)) refl h)
+angled text r e = search (rules, none-some, front-skip, one-word, same_Some)
 
 as-read : (r : Reading) (link : Autolink) → as_autolink r ≡ Some link → r.text ++ 62 ∷ r.rest ≡ link.text ++ 62 ∷ link.rest
 unfolding as_autolink
-as-read r link e = go (is_absolute r.text) (is_address r.text) e
-  where
-    go : (v w : Bool) → cond v (Some (record { destination = r.text; text = r.text; rest = r.rest })) (cond w (Some (record { destination = codes "mailto:" ++ r.text; text = r.text; rest = r.rest })) None) ≡ Some link
-        → r.text ++ 62 ∷ r.rest ≡ link.text ++ 62 ∷ link.rest
-    go true w h = ap (λ (l : Autolink). l.text ++ 62 ∷ l.rest) (same_Some (record { destination = r.text; text = r.text; rest = r.rest }) link h)
-    go false true h = ap (λ (l : Autolink). l.text ++ 62 ∷ l.rest) (same_Some (record { destination = codes "mailto:" ++ r.text; text = r.text; rest = r.rest }) link h)
-    go false false h = none-some h
+as-read r link e = search rules
 
 linked : (text : List ℕ) (link : Autolink) → Some link ≡ autolink text → text ≡ 60 ∷ (link.text ++ 62 ∷ link.rest)
 unfolding autolink
@@ -135,15 +120,7 @@ linked text link e = go (in_angles text) refl (sym e)
 -- what is followed is one
 is-linked : (rules : Rules) (text : List ℕ) (link : Autolink) → Some link ≡ followed_autolink rules text → Some link ≡ autolink text
 unfolding followed_autolink
-is-linked rules text link e = go (autolink text) (sym e)
-  where
-    go : (o : Option Autolink) → link_if_followed rules o ≡ Some link → Some link ≡ o
-    go None h = none-some h
-    go (Some found) h = by (is_followed rules found.destination) h
-      where
-        by : (t : Bool) → elim t as (λ _. Option Autolink) [ true ↦ Some found | false ↦ None ] ≡ Some link → Some link ≡ Some found
-        by true h = sym h
-        by false h = none-some h
+is-linked rules text link e = grind (arith, nat_tests, none-some)
 
 -- an autolink has two bytes or more
 pub link-further : (rules : Rules) (source : List ℕ) (at end : ℕ) (link : Autolink) → at < length source → end ≤ length source → Some link ≡ followed_autolink rules (drop at source) → link.rest ≡ drop end source → end ≡ at + 1 + length link.text + 1
@@ -180,9 +157,7 @@ link-placed rules source at end link utf8 within high e left =
 -- the whole of what was read
 pub whole-placed : (source : List ℕ) (at end : ℕ) → at ≤ end → end ≤ length source → before (drop end source) (drop at source) ≡ slice_range source at end
 unfolding before
-whole-placed source at end low high =
-    let size : length (drop at source) - length (drop end source) ≡ end - at = omega (arith, low, high, length-drop at source, length-drop end source) in
-    ap (λ n. take n (drop at source)) size
+whole-placed source at end low high = search (rules, length-drop)
 
 pub whole-text : (text html rest : List ℕ) (o : Option (List ℕ)) → Some (record { text = html; rest = rest }) ≡ whole_of text o → html ≡ before rest text
 whole-text text html rest None e = none-some (sym e)

@@ -23,22 +23,12 @@ use Rattle.cm_inline.proofs.lemmas.NumberLemmas.{nat-split as nat_split}
 use Rattle.cm_inline.proofs.lemmas.ReserveLemmas.{reserve-push}
 use Rattle.cm_inline.proofs.lemmas.SearchLemmas.{FoundBy, find-found, below-more}
 use Rattle.cm_inline.proofs.lemmas.WaitLemmas.{with_looks, after_pair, ready-fails, paid-fails, ready-pairs, paid-pairs}
+use Rattle.std.proofs.Common.{rules}
 
 -- what the code leaves of an entry
 
 pub leaving-rest : (n : ℕ) (e : Entry) (below : List Entry) → leaving (e.run.left - n) (e ∷ below) ≡ rest_of n e ++ below
-leaving-rest n e below = ap (λ l. l ++ below) (go (nat_le e.run.left n) refl)
-  where
-    cut : Entry
-    cut = record e { run = taken n e.run }
-
-    go : (b : Bool) → nat_le e.run.left n ≡ b → left_of (e.run.left - n) e ≡ rest_of n e
-    go true h =
-        let few : e.run.left ≤ n = leb-true e.run.left n h in
-        cond-true (e.run.left - n == 0) [] (cut ∷ []) (eq-eqb (e.run.left - n) 0 (omega (arith, few))) ∙ sym (cond-true (nat_le e.run.left n) [] (cut ∷ []) h)
-    go false h =
-        let more : n < e.run.left = leb-false e.run.left n h in
-        cond-false (e.run.left - n == 0) [] (cut ∷ []) (ne_eqb (e.run.left - n) 0 (λ q. absurd (omega (arith, more, q)))) ∙ sym (cond-false (nat_le e.run.left n) [] (cut ∷ []) h)
+leaving-rest n e below = search rules
 
 -- a write to a run
 
@@ -46,104 +36,29 @@ abbrev pub cut_run : (left opened : ℕ) → PairedRun → PairedRun
 cut_run left opened r = record { run = record r.run { left = left }; opened = opened; from = r.from; to = r.to }
 
 pub left-in : (number left opened : ℕ) (runs : List HeldRun) → number < length runs → runs_in (with_left number left opened runs) ≡ set (runs_in runs) number (cut_run left opened (get_or (runs_in runs) number no_paired_run))
-left-in number left opened runs h =
-    let r = run_at runs number in
-    map-set paired_run runs number (record { run = record { marker = r.run.marker; opens = r.run.opens; closes = r.run.closes; whole = r.run.whole; left = left }; opened = opened; from = r.from; to = r.to })
-    ∙ ap (λ p. set (runs_in runs) number (cut_run left opened p)) (sym (get_or-map paired_run runs number no_run no_paired_run h))
+left-in number left opened runs h = search (rules, map-set, get_or-map)
 
 pub same-write : (old runs new : List HeldRun) (number : ℕ) (x : HeldRun) → number < length runs → SameRuns old runs → new ≡ set runs number x → x.run.marker ≡ (run_at runs number).run.marker → x.run.whole ≡ (run_at runs number).run.whole → SameRuns old new
-same-write old runs new number x within s e m w = record { long = ap length e ∙ length-set runs number x ∙ s.long; same = same }
-  where
-    at : (n : ℕ) → ((run_at (set runs number x) n).run.marker ≡ (run_at runs n).run.marker) × ((run_at (set runs number x) n).run.whole ≡ (run_at runs n).run.whole)
-    at n = go (nat_split n number)
-      where
-        go : (n ≡ number) ⊎ (n ≡ number → ⊥) → ((run_at (set runs number x) n).run.marker ≡ (run_at runs n).run.marker) × ((run_at (set runs number x) n).run.whole ≡ (run_at runs n).run.whole)
-        go (inr q) = let is = get_or-set_other runs number n x no_run q in (ap (λ (r : HeldRun). r.run.marker) is, ap (λ (r : HeldRun). r.run.whole) is)
-        go (inl q) =
-            let is = ap (λ k. get_or (set runs number x) k no_run) q ∙ get_or-set_same runs number x no_run within in
-            (ap (λ (r : HeldRun). r.run.marker) is ∙ m ∙ ap (λ k. (run_at runs k).run.marker) (sym q), ap (λ (r : HeldRun). r.run.whole) is ∙ w ∙ ap (λ k. (run_at runs k).run.whole) (sym q))
-
-    same : (n : ℕ) → ((run_at new n).run.marker ≡ (run_at old n).run.marker) × ((run_at new n).run.whole ≡ (run_at old n).run.whole)
-    same n = (ap (λ rs. (run_at rs n).run.marker) e ∙ (at n).0 ∙ (s.same n).0, ap (λ rs. (run_at rs n).run.whole) e ∙ (at n).1 ∙ (s.same n).1)
+same-write old runs new number x within s e m w = search rules
 
 pub grows-none : (low high : ℕ) (s : State) → Grows low high s s
 grows-none low high s = record { long = refl; others = λ k h. refl; added = []; pairs = sym (append-nil s.pairs) }
 
 pub grows-write : (low high number : ℕ) (x : PairedRun) (more : List Pair) (old s t : State) → low ≤ number → number < high → Grows low high old s → t.runs ≡ set s.runs number x → t.pairs ≡ s.pairs ++ more → Grows low high old t
-grows-write low high number x more old s t l h g e p = record {
-  long = ap length e ∙ length-set s.runs number x ∙ g.long;
-  others = λ k o. ap (λ rs. get_or rs k no_paired_run) e ∙ get_or-set_other s.runs number k x no_paired_run (other k o) ∙ g.others k o;
-  added = g.added ++ more;
-  pairs = p ∙ ap (λ ps. ps ++ more) g.pairs ∙ append_assoc old.pairs g.added more;
-}
-  where
-    other : (k : ℕ) → (k < low) ⊎ (high ≤ k) → k ≡ number → ⊥
-    other k (inl o) q = absurd (omega (arith, o, q, l))
-    other k (inr o) q = absurd (omega (arith, o, q, h))
+grows-write low high number x more old s t l h g e p = search (rules, length-set, get_or-set_other, append_assoc)
 
 pub grows-rest : (low high : ℕ) (old s t : State) → Grows low high old s → t.runs ≡ s.runs → t.pairs ≡ s.pairs → Grows low high old t
-grows-rest low high old s t g e p = record {
-  long = ap length e ∙ g.long;
-  others = λ k o. ap (λ rs. get_or rs k no_paired_run) e ∙ g.others k o;
-  added = g.added;
-  pairs = p ∙ g.pairs;
-}
+grows-rest low high old s t g e p = search rules
 
 -- a pair's opener was in pairs before it
 
 pub chained-write : (runs now : List PairedRun) (pairs more : List Pair) (number : ℕ) (x : PairedRun) (p : Pair) → number < length runs → AreChained runs pairs → now ≡ set runs number x → more ≡ pairs ++ p ∷ [] → p.before ≤ length pairs → x.opened ≤ length more → x.from ≤ x.to → x.to ≤ length more
     → AreChained now more
-chained-write runs now pairs more number x p within c e m b o f t = record { before = before; opened = opened; closed = closed }
-  where
-    long : length more ≡ length pairs + 1
-    long = ap length m ∙ length-append pairs (p ∷ [])
-
-    before : (place : ℕ) → place < length more → (get_or more place no_pair).before ≤ place
-    before place h = go (nat_split place (length pairs))
-      where
-        go : (place ≡ length pairs) ⊎ (place ≡ length pairs → ⊥) → (get_or more place no_pair).before ≤ place
-        go (inl q) =
-            let is = ap (λ ps. get_or ps place no_pair) m ∙ get_or_push pairs p no_pair place (sym q) in
-            omega (arith, ap (λ (r : Pair). r.before) is, b, q)
-        go (inr q) =
-            let low : place < length pairs = omega (arith, h, long, q) in
-            let is = ap (λ ps. get_or ps place no_pair) m ∙ get_or_append_left pairs (p ∷ []) no_pair place low in
-            omega (arith, ap (λ (r : Pair). r.before) is, c.before place low)
-
-    at : (n : ℕ) → (get_or now n no_paired_run ≡ x) ⊎ (get_or now n no_paired_run ≡ get_or runs n no_paired_run)
-    at n = go (nat_split n number)
-      where
-        go : (n ≡ number) ⊎ (n ≡ number → ⊥) → (get_or now n no_paired_run ≡ x) ⊎ (get_or now n no_paired_run ≡ get_or runs n no_paired_run)
-        go (inl q) = inl (ap (λ rs. get_or rs n no_paired_run) e ∙ ap (λ k. get_or (set runs number x) k no_paired_run) q ∙ get_or-set_same runs number x no_paired_run within)
-        go (inr q) = inr (ap (λ rs. get_or rs n no_paired_run) e ∙ get_or-set_other runs number n x no_paired_run q)
-
-    opened : (n : ℕ) → (get_or now n no_paired_run).opened ≤ length more
-    opened n = go (at n)
-      where
-        go : (get_or now n no_paired_run ≡ x) ⊎ (get_or now n no_paired_run ≡ get_or runs n no_paired_run) → (get_or now n no_paired_run).opened ≤ length more
-        go (inl q) = omega (arith, ap (λ (r : PairedRun). r.opened) q, o)
-        go (inr q) = omega (arith, ap (λ (r : PairedRun). r.opened) q, c.opened n, long)
-
-    closed : (n : ℕ) → ((get_or now n no_paired_run).from ≤ (get_or now n no_paired_run).to) × ((get_or now n no_paired_run).to ≤ length more)
-    closed n = go (at n)
-      where
-        go : (get_or now n no_paired_run ≡ x) ⊎ (get_or now n no_paired_run ≡ get_or runs n no_paired_run) → ((get_or now n no_paired_run).from ≤ (get_or now n no_paired_run).to) × ((get_or now n no_paired_run).to ≤ length more)
-        go (inl q) = (omega (arith, ap (λ (r : PairedRun). r.from) q, ap (λ (r : PairedRun). r.to) q, f), omega (arith, ap (λ (r : PairedRun). r.to) q, t))
-        go (inr q) = (omega (arith, ap (λ (r : PairedRun). r.from) q, ap (λ (r : PairedRun). r.to) q, (c.closed n).0), omega (arith, ap (λ (r : PairedRun). r.to) q, (c.closed n).1, long))
+chained-write runs now pairs more number x p within c e m b o f t =
+    search (rules, length-append, nat_split, get_or_push, get_or_append_left, get_or-set_same, get_or-set_other)
 
 pub chained-put : (runs now : List PairedRun) (pairs : List Pair) (number : ℕ) (x : PairedRun) → number < length runs → AreChained runs pairs → now ≡ set runs number x → x.opened ≤ length pairs → x.from ≤ x.to → x.to ≤ length pairs → AreChained now pairs
-chained-put runs now pairs number x within c e o f t = record { before = c.before; opened = λ n. (kept n).0; closed = λ n. (kept n).1 }
-  where
-    kept : (n : ℕ) → ((get_or now n no_paired_run).opened ≤ length pairs) × (((get_or now n no_paired_run).from ≤ (get_or now n no_paired_run).to) × ((get_or now n no_paired_run).to ≤ length pairs))
-    kept n = go (nat_split n number)
-      where
-        go : (n ≡ number) ⊎ (n ≡ number → ⊥) → ((get_or now n no_paired_run).opened ≤ length pairs) × (((get_or now n no_paired_run).from ≤ (get_or now n no_paired_run).to) × ((get_or now n no_paired_run).to ≤ length pairs))
-        go (inl q) =
-            let is = ap (λ rs. get_or rs n no_paired_run) e ∙ ap (λ k. get_or (set runs number x) k no_paired_run) q ∙ get_or-set_same runs number x no_paired_run within in
-            (omega (arith, ap (λ (r : PairedRun). r.opened) is, o), (omega (arith, ap (λ (r : PairedRun). r.from) is, ap (λ (r : PairedRun). r.to) is, f), omega (arith, ap (λ (r : PairedRun). r.to) is, t)))
-        go (inr q) =
-            let is = ap (λ rs. get_or rs n no_paired_run) e ∙ get_or-set_other runs number n x no_paired_run q in
-            (omega (arith, ap (λ (r : PairedRun). r.opened) is, c.opened n), (omega (arith, ap (λ (r : PairedRun). r.from) is, ap (λ (r : PairedRun). r.to) is, (c.closed n).0), omega (arith, ap (λ (r : PairedRun). r.to) is, (c.closed n).1)))
+chained-put runs now pairs number x within c e o f t = search rules
 
 -- entries that are left
 
@@ -189,14 +104,7 @@ same-state s t r p l b = λ i. record { runs = r i; pairs = p i; list = l i; bot
 
 -- at first
 pub steps-none : (old : Runs) (had : List ℕ) (number : ℕ) → IsReady (state_of old had number).list had → RunSteps old old had had number number 0
-steps-none old had number ready = record {
-  ready = ready;
-  paid = omega arith;
-  grows = λ low h f. (f, grows-none low (number + 1) (state_of old had number));
-  same = record { long = refl; same = λ n. (refl, refl) };
-  chained = λ c. c;
-  waiting = refl;
-}
+steps-none old had number ready = search rules
 
 -- a search in vain
 pub steps-fails : (old new : Runs) (had bs : List ℕ) (number : ℕ) (c : Run) (openers : Stack) → RunSteps old new had bs number number 0 → find_opener c (get_or bs (kind c) 0) new.openers.entries ≡ None
@@ -225,51 +133,34 @@ pub record MakesPair (c : Run) (e : Entry) (below : List Entry) (looks : ℕ) (t
 
 pub steps-pairs : (old new now : Runs) (had bs : List ℕ) (number : ℕ) (c : Run) (e : Entry) (tag : Tag) → RunSteps old new had bs number number 0 → (g : FoundBy c (get_or bs (kind c) 0) new.openers.entries e)
     → MakesPair c e g.below (looks_for c (get_or bs (kind c) 0) new.openers.entries) tag new now → RunSteps old now had bs number number 0
-steps-pairs old new now had bs number c e tag s g m = record {
-  ready = subst (λ l. IsReady l bs) (sym is) (ready-pairs c e l bs looks s.ready g);
-  paid = omega (arith, s.paid, paid-pairs c e l bs s.ready g all_kinds, ap (λ l. spent all_kinds l bs) is);
-  grows = λ low h f. (
-      let r = s.grows low h f in
-      let here : EntriesFrom low (e ∷ g.below) = from-behind low g.passed (e ∷ g.below) (subst (EntriesFrom low) g.whole r.0) in (
-        subst (EntriesFrom low) (sym entries) (from-rest low (used e.run c) e g.below here),
-        grows-write low (number + 1) e.place x (p ∷ []) (state_of old had number) (state_of new bs number) (state_of now bs number) here.0 (omega (arith, place)) r.1 runs m.pairs,
-      )
-      );
-  same = same-write old.runs.items new.runs.items now.runs.items e.place _ m.within s.same m.runs refl refl;
-  chained = λ c0. (
-      let c1 = s.chained c0 in
-      chained-write (runs_in new.runs.items) (runs_in now.runs.items) (pairs_in new.pairs.items) (pairs_in now.pairs.items) e.place x p (omega (arith, m.within, length-map new.runs.items paired_run)) c1 runs m.pairs (c1.opened e.place)
-      (omega (arith, long, length-map new.pairs.items pair_in)) (c1.closed e.place).0 (omega (arith, long, (c1.closed e.place).1))
-      );
-  waiting = m.waiting ∙ s.waiting;
-}
-  where
-    l : Listed
-    l = (state_of new bs number).list
-
-    looks : ℕ
-    looks = looks_for c (get_or bs (kind c) 0) new.openers.entries
-
-    p : Pair
-    p = record { tag = tag; before = (get_or (runs_in new.runs.items) e.place no_paired_run).opened }
-
-    x : PairedRun
-    x = cut_run (e.run.left - used e.run c) (length new.pairs.items + 1) (get_or (runs_in new.runs.items) e.place no_paired_run)
-
-    place : e.place < number
-    place = below-found number g.passed e g.below (subst (Below number) g.whole s.ready.under)
-
-    entries : now.openers.entries ≡ rest_of (used e.run c) e ++ g.below
-    entries = m.entries ∙ leaving-rest (used e.run c) e g.below
-
-    is : (state_of now bs number).list ≡ after_pair c e looks g.below l
-    is = same-list _ _ entries m.looks_are refl
-
-    runs : runs_in now.runs.items ≡ set (runs_in new.runs.items) e.place x
-    runs = ap runs_in m.runs ∙ left-in e.place (e.run.left - used e.run c) (length new.pairs.items + 1) new.runs.items m.within
-
-    long : length (pairs_in now.pairs.items) ≡ length (pairs_in new.pairs.items) + 1
-    long = ap length m.pairs ∙ length-append (pairs_in new.pairs.items) (p ∷ [])
+steps-pairs old new now had bs number c e tag s g m =
+    let l = (state_of new bs number).list in
+    let looks = looks_for c (get_or bs (kind c) 0) new.openers.entries in
+    let p : Pair = record { tag = tag; before = (get_or (runs_in new.runs.items) e.place no_paired_run).opened } in
+    let x = cut_run (e.run.left - used e.run c) (length new.pairs.items + 1) (get_or (runs_in new.runs.items) e.place no_paired_run) in
+    let place = below-found number g.passed e g.below (subst (Below number) g.whole s.ready.under) in
+    let entries = m.entries ∙ leaving-rest (used e.run c) e g.below in
+    let is : (state_of now bs number).list ≡ after_pair c e looks g.below l = same-list _ _ entries m.looks_are refl in
+    let runs = ap runs_in m.runs ∙ left-in e.place (e.run.left - used e.run c) (length new.pairs.items + 1) new.runs.items m.within in
+    let long = ap length m.pairs ∙ length-append (pairs_in new.pairs.items) (p ∷ []) in
+    record {
+      ready = subst (λ l. IsReady l bs) (sym is) (ready-pairs c e l bs looks s.ready g);
+      paid = omega (arith, s.paid, paid-pairs c e l bs s.ready g all_kinds, ap (λ l. spent all_kinds l bs) is);
+      grows = λ low h f. (
+          let r = s.grows low h f in
+          let here : EntriesFrom low (e ∷ g.below) = from-behind low g.passed (e ∷ g.below) (subst (EntriesFrom low) g.whole r.0) in (
+            subst (EntriesFrom low) (sym entries) (from-rest low (used e.run c) e g.below here),
+            grows-write low (number + 1) e.place x (p ∷ []) (state_of old had number) (state_of new bs number) (state_of now bs number) here.0 (omega (arith, place)) r.1 runs m.pairs,
+          )
+          );
+      same = same-write old.runs.items new.runs.items now.runs.items e.place _ m.within s.same m.runs refl refl;
+      chained = λ c0. (
+          let c1 = s.chained c0 in
+          chained-write (runs_in new.runs.items) (runs_in now.runs.items) (pairs_in new.pairs.items) (pairs_in now.pairs.items) e.place x p (omega (arith, m.within, length-map new.runs.items paired_run)) c1 runs m.pairs (c1.opened e.place)
+          (omega (arith, long, length-map new.pairs.items pair_in)) (c1.closed e.place).0 (omega (arith, long, (c1.closed e.place).1))
+          );
+      waiting = m.waiting ∙ s.waiting;
+    }
 
 -- the closer's own run is written
 pub steps-put : (old new now : Runs) (had bs : List ℕ) (number : ℕ) (x : HeldRun) → RunSteps old new had bs number number 0 → number < length new.runs.items → now.runs.items ≡ set new.runs.items number x → now.pairs ≡ new.pairs → now.openers ≡ new.openers → now.waiting ≡ new.waiting

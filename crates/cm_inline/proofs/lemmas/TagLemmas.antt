@@ -12,6 +12,7 @@ use Rattle.cm_inline.specs.steps.pairing.States.{no_pair}
 use Rattle.cm_inline.specs.steps.Runs.{tag_in, pair_in, pairs_in}
 use Rattle.cm_inline.specs.steps.Writing.{ComeBefore}
 use Rattle.cm_inline.proofs.lemmas.PartLemmas.{chain-goes}
+use Rattle.std.proofs.Common.{rules}
 
 pub length-pairs : (ps : List made.Pair) → length (pairs_in ps) ≡ length ps
 length-pairs [] = refl
@@ -22,10 +23,7 @@ pub pair-at : (ps : List made.Pair) (n : ℕ) (d : made.Pair) → n < length ps 
 pair-at ps n d h = get_or-map pair_in ps n d no_pair h
 
 pub ends-next : (ps : List made.Pair) (at to : ℕ) (d : made.Pair) → at < to → to ≤ length ps → ends_between (pairs_in ps) at to ≡ End (tag_in (get_or ps at d).emphasis) ∷ ends_between (pairs_in ps) (at + 1) to
-ends-next ps at to d low high =
-    let long : length (take to (pairs_in ps)) ≡ to = length-take-le to (pairs_in ps) (omega (arith, length-pairs ps)) in
-    ap ends (drop_more (take to (pairs_in ps)) at no_pair (omega (arith, long)))
-    ∙ ap (λ (q : Pair). End q.tag ∷ ends_between (pairs_in ps) (at + 1) to) (get_or-take to (pairs_in ps) at no_pair low ∙ pair-at ps at d (omega (arith, low, high)))
+ends-next ps at to d low high = search (rules, length-take-le, length-pairs, drop_more, get_or-take, pair-at)
 
 pub ends-last : (pairs : List Pair) (at to : ℕ) → to ≤ at → ends_between pairs at to ≡ []
 ends-last pairs at to h = ap ends (drop_all at (take to pairs) (omega (arith, length-take to pairs)))

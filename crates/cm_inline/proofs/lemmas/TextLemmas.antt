@@ -20,6 +20,7 @@ use Rattle.cm_scan.specs.inlines.Inlines.{inlines_of}
 use Rattle.cm_inline.proofs.lemmas.SliceLemmas.{slice-front}
 use Rattle.cm_inline.specs.steps.Marks.{stays_text}
 use Rattle.cm_inline.specs.steps.Reads.{IsTextTo}
+use Rattle.std.proofs.Common.{rules}
 
 -- the bytes up to the first that is looked for
 record UpTo (text : List ℕ) (count : ℕ) : Type 0 where
@@ -55,23 +56,7 @@ record Reaches (source : List ℕ) (at end : ℕ) : Type 0 where
   marked : end < length source → is_marked (get_or source end 0) ≡ true
 
 reaches : (source : List ℕ) (at end : ℕ) → at ≤ length source → end ≡ next_place is_marked source at → Reaches source at end
-reaches source at end within e =
-    let text = drop at source in
-    let found = up-to text in
-    let count = position_or_len is_marked text in
-    let size : length text ≡ length source - at = length-drop at source in
-    let place : end ≡ at + count = e ∙ least (length source) (at + count) (omega (arith, found.within, size, within)) in
-    let front : end - at ≡ count = omega (arith, place) in
-    record {
-      low = omega (arith, place);
-      within = omega (arith, place, found.within, size, within);
-      plain = ap (λ n. list_all is_plain_byte (take n text)) front ∙ found.plain;
-      stays = ap (λ n. list_all (stays_text true) (take n text)) front ∙ found.stays;
-      marked = λ some. ap is_marked (ap (λ n. get_or source n 0) place ∙ sym (get_or-drop at source count 0)) ∙ found.marked (omega (arith, some, place, size, within));
-    }
-  where
-    least : (a b : ℕ) → b ≤ a → min a b ≡ b
-    least a b low = omega (arith, low)
+reaches source at end within e = search (rules, up-to, length-drop, get_or-drop)
 
 marked-ascii : (b : ℕ) → is_marked b ≡ true → b < 128
 marked-ascii b e = grind (arith, nat_tests, e)

@@ -22,6 +22,7 @@ use Rattle.cm_inline.specs.steps.pairing.States.{IsReady}
 use Rattle.cm_inline.specs.steps.pairing.WaitingOpeners.{WaitAsOpeners}
 use Rattle.cm_inline.proofs.lemmas.ReadingLemmas.{reads-rest, reads-empty}
 use Rattle.cm_inline.proofs.lemmas.StackLemmas.{Found, stacked-found, stacked-more, stacked-push, found-nearest, none-nearest, pair_events, pair-stacked, pair-items}
+use Rattle.std.proofs.Common.{rules}
 
 abbrev pub with_looks : Listed → ℕ → Listed
 with_looks l n = record { entries = l.entries; looks = l.looks + n; next = l.next }
@@ -35,17 +36,7 @@ pub waits-ready : {fs : List Event} {before : List Item} {l : Listed} {bs : List
 waits-ready w = record { falling = w.falling; under = w.under; size = w.size; low = w.low }
 
 pub ready-fails : (c : Run) (l : Listed) (bs : List ℕ) (n : ℕ) → IsReady l bs → IsReady (with_looks l n) (set bs (kind c) l.next)
-ready-fails c l bs n w = record { falling = w.falling; under = w.under; size = length-set bs (kind c) l.next ∙ w.size; low = low }
-  where
-    within : kind c < length bs
-    within = omega (arith, kind-small c, w.size)
-
-    low : (j : ℕ) → get_or (set bs (kind c) l.next) j 0 ≤ l.next
-    low j = go (nat_split j (kind c))
-      where
-        go : (j ≡ kind c) ⊎ (j ≡ kind c → ⊥) → get_or (set bs (kind c) l.next) j 0 ≤ l.next
-        go (inl q) = let s : get_or (set bs (kind c) l.next) j 0 ≡ l.next = ap (λ i. get_or (set bs (kind c) l.next) i 0) q ∙ get_or-set_same bs (kind c) l.next 0 within in omega (arith, s)
-        go (inr q) = let s : get_or bs j 0 ≤ l.next = w.low j in omega (arith, get_or-set_other bs (kind c) j l.next 0 q, s)
+ready-fails c l bs n w = search (rules, length-set, kind-small, nat_split, get_or-set_same, get_or-set_other)
 
 pub paid-fails : (c : Run) (l : Listed) (bs : List ℕ) → IsReady l bs → find_opener c (get_or bs (kind c) 0) l.entries ≡ None → (kinds : ℕ) → kind c < kinds
     → spent kinds (with_looks l (looks_for c (get_or bs (kind c) 0) l.entries)) (set bs (kind c) l.next) ≤ spent kinds l bs
@@ -200,14 +191,7 @@ waits-others fs gs before more l bs w g n =
     record { stacked = stacked-more l.entries fs gs before more w.stacked g n; falling = w.falling; under = w.under; size = w.size; low = w.low; sound = w.sound }
 
 waits-next : (fs : List Event) (before : List Item) (l : Listed) (bs : List ℕ) → WaitAsOpeners fs before l bs → WaitAsOpeners fs before (passed_by l l.entries) bs
-waits-next fs before l bs w = record {
-  stacked = w.stacked;
-  falling = w.falling;
-  under = below-more l.next (l.next + 1) l.entries (omega arith) w.under;
-  size = w.size;
-  low = λ k. (let q : get_or bs k 0 ≤ l.next = w.low k in omega (arith, q));
-  sound = w.sound;
-}
+waits-next fs before l bs w = search (rules, below-more)
 
 pub waits-text : (fs : List Event) (before : List Item) (number : ℕ) (r : Run) (l : Listed) (bs : List ℕ) → WaitAsOpeners fs before l bs → r.opens ≡ false
     → WaitAsOpeners (fs ++ Rest number r ∷ []) (Delimiters r ∷ before) (passed_by l l.entries) bs

@@ -27,6 +27,7 @@ use Rattle.cm_inline.specs.steps.Reads.{Stands, atom_in, item_for, IsAtom, IsTex
 use Rattle.cm_inline.proofs.lemmas.DeeperLemmas.{emphasis-deeper, after-deeper}
 use Rattle.cm_inline.proofs.lemmas.PairDepthLemmas.{reverse-depth}
 use Rattle.cm_inline.proofs.lemmas.SliceLemmas.{slice-front, before-later, before-one}
+use Rattle.std.proofs.Common.{rules}
 
 -- the items from a place on, after items that have the last first
 abbrev pub items_from : Rules → Defined → List ℕ → ℕ → List pairing.Item → List pairing.Item
@@ -67,19 +68,10 @@ adds-item rules defined items _ rest i e = ap (λ i. with_item items i rest) (cc
 pub ahead-atom : (rules : Rules) (defined : Defined) (source : List ℕ) (so_far : List pairing.Item) (at : ℕ) (item : pairing.Item) (end : ℕ) → at < length source → IsAtom rules source at item end
     → ahead rules defined source (so_far ++ item ∷ []) end ≡ ahead rules defined source so_far at
 unfolding item_step
-ahead-atom rules defined source so_far at item end within is =
-    let items = reverse so_far in
-    let a = atom_in rules source at in
-    ahead-step rules defined source so_far (so_far ++ item ∷ []) at end within is.further (
-    adds-item rules defined items a.atom a.rest item is.item_is
-    ∙ ap (λ t. with_item items item t) is.rest
-    ∙ ap (λ t. record { items = t; rest = drop end source }) (sym (reverse-append so_far (item ∷ [])))
-    )
+ahead-atom rules defined source so_far at item end within is = grind (arith, nat_tests, ahead-step, adds-item, reverse-append)
 
 pub bracket-at : (rules : Rules) (defined : Defined) (source : List ℕ) (so_far : List pairing.Item) (at : ℕ) → Stands source at 93 → step_at rules defined source at (reverse so_far) ≡ closed_at rules defined source so_far at
-bracket-at rules defined source so_far at stands =
-    ap (λ b. item_step rules defined (reverse (take at source)) b (drop (at + 1) source) (reverse so_far)) stands.byte
-    ∙ bracket_step rules defined (reverse (take at source)) (drop (at + 1) source) (reverse so_far)
+bracket-at rules defined source so_far at stands = grind (arith, nat_tests, bracket_step)
 
 pub ahead-bracket : (rules : Rules) (defined : Defined) (source : List ℕ) (so_far more : List pairing.Item) (at end : ℕ) → Stands source at 93 → at < end
     → closed_at rules defined source so_far at ≡ record { items = reverse more; rest = drop end source }
@@ -98,14 +90,7 @@ pieces-pieces (b ∷ bs) = ap (λ t. pairing.Characters (b ∷ []) ∷ t) (piece
 
 pub text-pieces : (source : List ℕ) (so_far : List pairing.Item) (at end : ℕ) → let text = slice_range source at end in
     in_pieces (reverse (reverse (one_by_one text) ++ reverse so_far)) ≡ in_pieces (reverse (reverse (so_far ++ pairing.Characters (slice_range source at end) ∷ [])))
-text-pieces source so_far at end =
-    let text = one_by_one (slice_range source at end) in
-    let items = so_far in
-    ap in_pieces (reverse-append (reverse text) (reverse items) ∙ ap (λ t. t ++ reverse (reverse text)) (reverse-reverse items) ∙ ap (λ t. items ++ t) (reverse-reverse text))
-    ∙ flat_map-append pieces_of items text
-    ∙ ap (λ t. in_pieces items ++ t) (pieces-pieces (slice_range source at end))
-    ∙ sym (pieces-more source so_far (pairing.Characters (slice_range source at end)))
-    ∙ ap in_pieces (sym (reverse-reverse (so_far ++ pairing.Characters (slice_range source at end) ∷ [])))
+text-pieces source so_far at end = search (rules, reverse-append, reverse-reverse, flat_map-append, pieces-pieces, pieces-more)
 
 text-on : (rules : Rules) (defined : Defined) (source : List ℕ) (so_far : List pairing.Item) (at end : ℕ) → IsTextTo source at end
     → ahead rules defined source (so_far ++ pairing.Characters (slice_range source at end) ∷ []) end ≡ ahead rules defined source so_far at
@@ -127,13 +112,7 @@ nat_lt-false a b e = grind (arith, nat_tests, e)
 
 pub ahead-text : (rules : Rules) (defined : Defined) (source : List ℕ) (so_far : List pairing.Item) (at end : ℕ) → IsTextTo source at end
     → ahead rules defined source (so_far ++ text_items source at end) end ≡ ahead rules defined source so_far at
-ahead-text rules defined source so_far at end is = go (nat_lt at end) refl
-  where
-    go : (some : Bool) → nat_lt at end ≡ some → ahead rules defined source (so_far ++ (if some then pairing.Characters (slice_range source at end) ∷ [] else [])) end ≡ ahead rules defined source so_far at
-    go true e = text-on rules defined source so_far at end is
-    go false e =
-        let same : end ≡ at = omega (arith, is.low, nat_lt-false at end e) in
-        ap (λ t. ahead rules defined source t end) (append-nil so_far) ∙ ap (ahead rules defined source so_far) same
+ahead-text rules defined source so_far at end is = grind (arith, nat_tests, text-on, nat_lt-false, append-nil)
 
 -- at the start and at the end of a source
 pub ahead-start : (rules : Rules) (defined : Defined) (source : List ℕ) → ahead rules defined source [] zero ≡ in_pieces (inlines.items_of rules defined source)
@@ -142,9 +121,7 @@ ahead-start rules defined source = refl
 
 pub ahead-end : (rules : Rules) (defined : Defined) (source : List ℕ) (so_far : List pairing.Item) (at : ℕ) → length source ≤ at → ahead rules defined source so_far at ≡ in_pieces so_far
 unfolding items_after
-ahead-end rules defined source so_far at past =
-    ap (λ t. in_pieces (reverse (items_after rules defined zero (reverse (take at source)) t (reverse so_far)))) (drop_all at source past)
-    ∙ ap in_pieces (reverse-reverse so_far)
+ahead-end rules defined source so_far at past = search (rules, drop_all, reverse-reverse)
 
 -- the inlines of items that are a source's, in pieces
 pub inlines-are : (rules : Rules) (defined : Defined) (source : List ℕ) (items : List pairing.Item) → in_pieces items ≡ in_pieces (inlines.items_of rules defined source) → emphasis_of items ≡ inlines_of rules defined source
@@ -172,19 +149,11 @@ closed-deeper rules defined source so_far at limit stands deep =
 pub nests : (rules : Rules) (defined : Defined) (limit : ℕ) (source : List ℕ) (items : List pairing.Item) → in_pieces items ≡ in_pieces (inlines.items_of rules defined source) → limit < inlines_depth (emphasis_of items)
     → nests_past rules defined limit source ≡ true
 unfolding depth_of_leaf
-nests rules defined limit source items same deep =
-    let whole : inlines_depth (emphasis_of items) ≡ depth_of_leaf rules defined source = ap inlines_depth (inlines-are rules defined source items same) in
-    above limit (depth_of_leaf rules defined source) (omega (arith, deep, whole))
-  where
-    above : (a b : ℕ) → a < b → nat_lt a b ≡ true
-    above a b h = grind (arith, nat_tests, h)
+nests rules defined limit source items same deep = grind (arith, nat_tests, inlines-are)
 
 pub nests-ahead : (rules : Rules) (defined : Defined) (limit : ℕ) (source : List ℕ) (items : List pairing.Item) → items ≡ in_pieces (inlines.items_of rules defined source) → limit < inlines_depth (emphasis_of items)
     → nests_past rules defined limit source ≡ true
-nests-ahead rules defined limit source items same deep =
-    let whole = inlines.items_of rules defined source in
-    let depth : inlines_depth (emphasis_of items) ≡ inlines_depth (emphasis_of whole) = ap (λ t. inlines_depth (emphasis_of t)) same ∙ ap inlines_depth (texts_in_pieces whole) in
-    nests rules defined limit source whole refl (omega (arith, deep, depth))
+nests-ahead rules defined limit source items same deep = grind (arith, nat_tests, texts_in_pieces, nests)
 
 -- a fault of the reading
 pub refused : (told : InlineFault) (rules : Rules) (targets : Targets) (limit : ℕ) (source : List ℕ) → (told ≡ InlinesTooDeep → nests_past rules (defined_in targets) limit source ≡ true)
@@ -196,9 +165,4 @@ refused SourceTooLong rules targets limit source deep long = long refl
 pub within-limit : (rules : Rules) (defined : Defined) (limit : ℕ) (source : List ℕ) (items : List pairing.Item) → in_pieces items ≡ in_pieces (inlines.items_of rules defined source) → inlines_depth (emphasis_of items) ≤ limit
     → nests_past rules defined limit source ≡ false
 unfolding depth_of_leaf
-within-limit rules defined limit source items same low =
-    let whole : inlines_depth (emphasis_of items) ≡ depth_of_leaf rules defined source = ap inlines_depth (inlines-are rules defined source items same) in
-    not-above limit (depth_of_leaf rules defined source) (omega (arith, low, whole))
-  where
-    not-above : (a b : ℕ) → b ≤ a → nat_lt a b ≡ false
-    not-above a b h = grind (arith, nat_tests, h)
+within-limit rules defined limit source items same low = grind (arith, nat_tests, inlines-are)

@@ -15,6 +15,7 @@ use Rattle.cm_inline.specs.steps.pairing.Parts.{Pair, PairedRun, events_of}
 use Rattle.cm_inline.specs.steps.pairing.Readings.{start_html, end_html, Mode, Tags, Alternative, is_number, mode_of, Page, page, write, write_all}
 use Rattle.cm_inline.specs.steps.Marks.{text_event, texts, stays_text}
 use Rattle.cm_inline.proofs.lemmas.HtmlLemmas.{byte-html}
+use Rattle.std.proofs.Common.{rules}
 
 pub write-append : (p : Page) (fs gs : List Event) → write_all p (fs ++ gs) ≡ write_all (write_all p fs) gs
 unfolding write_all
@@ -49,10 +50,7 @@ write-from a m fs = ap (λ h. write_all (page h m) fs) (sym (append-nil a)) ∙ 
 
 -- nor does the mode after it
 pub mode-same : (a b : List ℕ) (m : Mode) (fs : List Event) → (write_all (page a m) fs).mode ≡ (write_all (page b m) fs).mode
-mode-same a b m fs = ap (λ p. mode p) (write-from a m fs) ∙ sym (ap (λ p. mode p) (write-from b m fs))
-  where
-    mode : Page → Mode
-    mode p = p.mode
+mode-same a b m fs = search (rules, write-from)
 
 pub soft-html : (rendered inlines.Soft).html ≡ 10 ∷ []
 soft-html = simp (fold_out-Inline Rendered inline_step, outs-Soft)
@@ -63,11 +61,7 @@ soft-plain = simp (fold_out-Inline Rendered inline_step, outs-Soft)
 -- text between marks
 
 byte-tags : (html : List ℕ) (b : ℕ) → stays_text false b ≡ true → write html Tags (text_event b) ≡ page (html ++ b ∷ []) Tags
-byte-tags html b h = go (b == 10) refl
-  where
-    go : (c : Bool) → (b == 10) ≡ c → write html Tags (cond c (Whole inlines.Soft) (Text (b ∷ []))) ≡ page (html ++ b ∷ []) Tags
-    go true e = ap (λ t. page (html ++ t) Tags) (soft-html ∙ ap (λ n. n ∷ []) (sym (eqb-true b 10 e)))
-    go false e = ap (λ t. page (html ++ t) Tags) (append-nil (escape_byte b) ∙ byte-html b h)
+byte-tags html b h = search (rules, soft-html, eqb-true, append-nil, byte-html)
 
 pub texts-tags : (runs : List PairedRun) (pairs : List Pair) (text html : List ℕ) → list_all (stays_text false) text ≡ true → write_all (page html Tags) (events_of runs pairs (texts text)) ≡ page (html ++ text) Tags
 unfolding write_all events_of
@@ -78,11 +72,7 @@ texts-tags runs pairs (b ∷ bs) html h =
     ∙ ap (λ t. page t Tags) (append_assoc html (b ∷ []) bs)
 
 byte-alternative : (html : List ℕ) (n b : ℕ) → write html (Alternative n) (text_event b) ≡ page (html ++ escape_byte (cond (b == 10) 32 b)) (Alternative n)
-byte-alternative html n b = go (b == 10)
-  where
-    go : (c : Bool) → write html (Alternative n) (cond c (Whole inlines.Soft) (Text (b ∷ []))) ≡ page (html ++ escape_byte (cond c 32 b)) (Alternative n)
-    go true = ap (λ t. page (html ++ escape t) (Alternative n)) soft-plain
-    go false = ap (λ t. page (html ++ t) (Alternative n)) (append-nil (escape_byte b))
+byte-alternative html n b = search (rules, soft-plain, append-nil)
 
 pub texts-alternative : (runs : List PairedRun) (pairs : List Pair) (text html : List ℕ) (n : ℕ) → write_all (page html (Alternative n)) (events_of runs pairs (texts text)) ≡ page (html ++ escape (one_line text)) (Alternative n)
 unfolding write_all events_of

@@ -22,20 +22,8 @@ returns-then-are_spaces-clause-stripped c =
     rw (sym (ap (λ t. slice_range t c.args.from c.args.to) c.as_bytes.ensures.value))
     (stripped-spaces (slice_range c.as_bytes.result.now c.args.from c.args.to) (sym c.are_spaces.ensures ∙ c.if-are_spaces.true))
 
-pub returns-clause-stripped : goal.returns-clause-stripped
-returns-clause-stripped c =
-    let text = c.as_bytes.result.now in
-    let high : c.args.to ≤ length text = omega (arith, c.requires.2.0, ap length c.as_bytes.ensures.value) in
-    let bytes = slice_range text c.args.from c.args.to in
-    let size = part-length text c.args.from c.args.to c.requires.0 high in
-    ap (λ t. one_line (slice_range t (c.args.from + 1) (c.args.to - 1))) (sym c.as_bytes.ensures.value)
-    ∙ ap one_line (sym (inner-is text c.args.from c.args.to c.requires.0 high))
-    ∙ stripped-cut bytes (omega (arith, size, c.if-len-lt2.false)) (sym c.is_space.ensures ∙ c.if-not-is_space.false)
-    (sym c.is_space-else-not-is_space.ensures ∙ c.if-not-is_space-2.false) (sym c.are_spaces.ensures ∙ c.if-are_spaces.false)
-    ∙ ap (λ t. stripped (one_line (slice_range t c.args.from c.args.to))) c.as_bytes.ensures.value
-
-pub returns-clause-between : goal.returns-clause-between
-returns-clause-between c =
+pub returns : goal.returns
+returns c =
     let text = c.as_bytes.result.now in
     let source = c.args.source.now in
     let high : c.args.to ≤ length text = omega (arith, c.requires.2.0, ap length c.as_bytes.ensures.value) in
@@ -45,8 +33,16 @@ returns-clause-between c =
     let last = space-ascii bytes (length bytes - 1) (sym c.is_space-else-not-is_space.ensures ∙ c.if-not-is_space-2.false) in
     let first-is = part-first text c.args.from c.args.to (omega (arith, c.if-len-lt2.false)) in
     let last-is = part-last text c.args.from c.args.to c.requires.0 high (omega (arith, c.if-len-lt2.false)) in
-    let seen = c.as_bytes.ensures.value in (
-      omega (arith, c.if-len-lt2.false),
-      IsCharBoundary-after_ascii source c.args.from c.utf8.source (omega (arith, c.if-len-lt2.false, high, ap length seen)) (omega (arith, low, first-is, ap (λ t. get_or t c.args.from 0) seen)),
-      IsCharBoundary-before_ascii source (c.args.to - 1) (omega (arith, c.if-len-lt2.false, high, ap length seen)) (omega (arith, last, last-is, ap (λ t. get_or t (c.args.to - 1) 0) seen)),
-    )
+    let seen = c.as_bytes.ensures.value in
+    record {
+      stripped = ap (λ t. one_line (slice_range t (c.args.from + 1) (c.args.to - 1))) (sym c.as_bytes.ensures.value)
+          ∙ ap one_line (sym (inner-is text c.args.from c.args.to c.requires.0 high))
+          ∙ stripped-cut bytes (omega (arith, size, c.if-len-lt2.false)) (sym c.is_space.ensures ∙ c.if-not-is_space.false)
+          (sym c.is_space-else-not-is_space.ensures ∙ c.if-not-is_space-2.false) (sym c.are_spaces.ensures ∙ c.if-are_spaces.false)
+          ∙ ap (λ t. stripped (one_line (slice_range t c.args.from c.args.to))) c.as_bytes.ensures.value;
+      between = (
+        omega (arith, c.if-len-lt2.false),
+        IsCharBoundary-after_ascii source c.args.from c.utf8.source (omega (arith, c.if-len-lt2.false, high, ap length seen)) (omega (arith, low, first-is, ap (λ t. get_or t c.args.from 0) seen)),
+        IsCharBoundary-before_ascii source (c.args.to - 1) (omega (arith, c.if-len-lt2.false, high, ap length seen)) (omega (arith, last, last-is, ap (λ t. get_or t (c.args.to - 1) 0) seen)),
+      );
+    }
