@@ -82,3 +82,4 @@ pub mod BuildLemmas
 pub mod SettleLemmas
 pub mod NestingLemmas
 pub mod OutcomeLemmas
+pub mod Words

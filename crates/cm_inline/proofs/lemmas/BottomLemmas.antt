@@ -1,12 +1,12 @@
 -- Closers of one kind match the same openers, and the search for an opener passes over items of which none is one.
-use Rattle.std.proofs.Common.{◌≡◌, inl, inr, ℕ, ◌+◌, ◌%◌, ◌<◌, Bool, true, false, cond, not, ◌&&◌, ◌||◌, ◌==◌, List, [], ◌∷◌, ◌++◌, reverse, Some, None, refl, sym, ap, ◌∙◌, arith, append-nil}
+use Rattle.cm_inline.proofs.lemmas.Words.{◌≡◌, inl, inr, ℕ, ◌+◌, ◌<◌, Bool, true, false, cond, ◌&&◌, ◌==◌, List, [], ◌∷◌, ◌++◌, reverse, Some, None, refl, sym, ap}
+use Rattle.cm_inline.proofs.lemmas.Words.{◌∙◌, arith, append-nil, Run, delimiters_match, Item, Characters, Finished, Linked, Delimiters, Opener, nearest_opener}
+use Rattle.cm_inline.proofs.lemmas.Words.{opened_at, rules, nat_tests}
+use Rattle.std.proofs.Common.{◌%◌}
 use Rattle.std.specs.Prelude.{⊤}
-use Rattle.cm_scan.specs.inlines.Delimiters.{Run, is_multiple_of_3, delimiters_match}
-use Rattle.cm_scan.specs.inlines.Pairing.{Item, Characters, Finished, Linked, Delimiters, Opener, nearest_opener}
-use Rattle.cm_scan.proofs.lemmas.inlines.PairingLemmas.{reverse-first, nearest-found, nearest-passes, opened_at}
+use Rattle.cm_scan.proofs.lemmas.inlines.PairingLemmas.{reverse-first, nearest-found, nearest-passes}
 use Rattle.cm_inline.specs.Closers.{kinds_of_one, kinds_without_tildes, all_kinds}
 use Rattle.cm_inline.specs.steps.Searching.{kind, IsMarked}
-use Rattle.std.proofs.Common.{rules}
 
 -- closers of stars or underscores with these in common
 record IsAlike (c d : Run) : Type 0 where
@@ -22,36 +22,17 @@ alike-match c d o k = search rules
 -- a closer of tildes matches each opener of tildes
 tildes-match : (c o : Run) → c.character ≡ 126 → delimiters_match c o ≡ (126 == o.character && true)
 unfolding delimiters_match
-tildes-match c o e =
-    ap (λ x. x == o.character && (x == 126 || not (c.opens && c.closes || o.opens && o.closes) || not (is_multiple_of_3 (c.whole + o.whole)) || (is_multiple_of_3 c.whole && is_multiple_of_3 o.whole))) e
+tildes-match c o e = search rules
 
 -- the number of a kind, by its parts
 abbrev number : (tilde underscore opens : Bool) → ℕ → ℕ
 number tilde underscore opens rest = cond tilde kinds_without_tildes (cond underscore kinds_of_one 0 + cond opens 3 0 + rest)
 
 apart : (u o v p : Bool) (w x : ℕ) → w < 3 → x < 3 → number false u o w ≡ number false v p x → (u ≡ v) × (o ≡ p) × (w ≡ x)
-apart true true true true w x g h e = (refl, refl, omega (arith, g, h, e))
-apart true true true false w x g h e = absurd (omega (arith, g, h, e))
-apart true true false true w x g h e = absurd (omega (arith, g, h, e))
-apart true true false false w x g h e = absurd (omega (arith, g, h, e))
-apart true false true true w x g h e = absurd (omega (arith, g, h, e))
-apart true false true false w x g h e = (refl, refl, omega (arith, g, h, e))
-apart true false false true w x g h e = absurd (omega (arith, g, h, e))
-apart true false false false w x g h e = absurd (omega (arith, g, h, e))
-apart false true true true w x g h e = absurd (omega (arith, g, h, e))
-apart false true true false w x g h e = absurd (omega (arith, g, h, e))
-apart false true false true w x g h e = (refl, refl, omega (arith, g, h, e))
-apart false true false false w x g h e = absurd (omega (arith, g, h, e))
-apart false false true true w x g h e = absurd (omega (arith, g, h, e))
-apart false false true false w x g h e = absurd (omega (arith, g, h, e))
-apart false false false true w x g h e = absurd (omega (arith, g, h, e))
-apart false false false false w x g h e = (refl, refl, omega (arith, g, h, e))
+apart u o v p w x g h e = grind (arith, nat_tests)
 
 number-small : (u o : Bool) (w : ℕ) → w < 3 → number false u o w < kinds_without_tildes
-number-small true true w h = omega (arith, h)
-number-small true false w h = omega (arith, h)
-number-small false true w h = omega (arith, h)
-number-small false false w h = omega (arith, h)
+number-small u o w h = grind (arith, nat_tests)
 
 number-of : (c : Run) (n : ℕ) → c.character ≡ n → kind c ≡ number (n == 126) (n == 95) c.opens (c.whole % 3)
 unfolding kind
@@ -101,8 +82,7 @@ nearest-skips c (Characters t ∷ xs) ys inside h = nearest-skips c xs ys (Chara
 nearest-skips c (Finished i ∷ xs) ys inside h = nearest-skips c xs ys (Finished i ∷ inside) h.1 ∙ ap (nearest_opener c ys) (sym (reverse-first (Finished i) xs inside))
 nearest-skips c (Linked i ∷ xs) ys inside h = nearest-skips c xs ys (Linked i ∷ inside) h.1 ∙ ap (nearest_opener c ys) (sym (reverse-first (Linked i) xs inside))
 nearest-skips c (Opener b n ∷ xs) ys inside h = nearest-skips c xs ys (Opener b n ∷ inside) h.1 ∙ ap (nearest_opener c ys) (sym (reverse-first (Opener b n) xs inside))
-nearest-skips c (Delimiters r ∷ xs) ys inside h =
-    nearest-passes c r (xs ++ ys) inside h.0 ∙ nearest-skips c xs ys (Delimiters r ∷ inside) h.1 ∙ ap (nearest_opener c ys) (sym (reverse-first (Delimiters r) xs inside))
+nearest-skips c (Delimiters r ∷ xs) ys inside h = search (rules, nearest-passes, reverse-first, (nearest-skips c xs ys (Delimiters r ∷ inside) h.1))
 
 -- so where there is none nothing is found, and the nearest is found after others
 pub nearest-none : (c : Run) (xs inside : List Item) → NoOpener c xs → nearest_opener c xs inside ≡ None

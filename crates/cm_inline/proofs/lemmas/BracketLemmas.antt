@@ -1,14 +1,11 @@
 -- What a `]` makes of the items before it.
-use Rattle.std.proofs.Common.{◌≡◌, ℕ, ◌+◌, ◌-◌, ◌<◌, ◌≤◌, Bool, true, false, not, ◌&&◌, ◌||◌, List, [], ◌∷◌, ◌++◌, length, take, drop, reverse, Option, Some, None, refl, sym, ap, ◌∙◌, arith, append_assoc, length-drop}
-use Rattle.std.specs.Prelude.{nat_lt}
-use Rattle.std.specs.List.{slice_range}
-use Rattle.std.proofs.lemmas.List.{append-nil, reverse-append}
-use Rattle.cm_text.specs.Rules.{Rules}
-use Rattle.cm_scan.specs.inlines.Pairing.{Item, Characters, Finished, Linked, Delimiters, Opener, bracket_text}
-use Rattle.cm_scan.specs.inlines.Brackets.{Defined, LinkEnd, Bracketed, OpenerFound, last_opener, source_up_to, end_at, holds_link, made, bracket_is_text, brackets_are_text, closed_by_bracket, close_bracket}
-use Rattle.cm_inline.specs.declared.brackets.Bracket.{Bracket}
+use Rattle.cm_inline.proofs.lemmas.Words.{◌≡◌, ℕ, ◌+◌, ◌-◌, ◌<◌, ◌≤◌, Bool, true, false, not, ◌&&◌, ◌||◌, List, [], ◌∷◌, ◌++◌, length, drop, reverse, Option, Some}
+use Rattle.cm_inline.proofs.lemmas.Words.{None, refl, sym, ap, ◌∙◌, arith, append_assoc, length-drop, nat_lt, slice_range, reverse-append, Rules, Item, Characters}
+use Rattle.cm_inline.proofs.lemmas.Words.{Finished, Linked, Delimiters, Opener, bracket_text, Defined, LinkEnd, Bracketed, OpenerFound, last_opener, end_at}
+use Rattle.cm_inline.proofs.lemmas.Words.{holds_link, made, bracket_is_text, brackets_are_text, closed_by_bracket, close_bracket, Bracket, nat_tests}
+use Rattle.std.proofs.lemmas.List.{append-nil}
+use Rattle.cm_scan.specs.inlines.Brackets.{source_up_to}
 use Rattle.cm_inline.specs.steps.Brackets.{is_opener, has_opener, closed_at, end_for}
-use Rattle.std.proofs.lemmas.Bool.Decides.{nat_tests}
 
 -- no opener is among items without open brackets
 no-opener : (items before after : List Item) → has_opener items ≡ false → last_opener (reverse items ++ before) after ≡ last_opener before (items ++ after)
@@ -92,8 +89,7 @@ module _ (rules : Rules) (defined : Defined) (source : List ℕ) (outer inner : 
   ]
 
   end-turned : (o : Option LinkEnd) → by_end o ≡ closed_or outer inner b.image rest o
-  end-turned None = ap (λ t. record { items = t; rest = rest }) text-turned
-  end-turned (Some end) = ap (λ t. record { items = t; rest = end.rest }) (sym (reverse-append outer (made b.image end.dest end.title inner ∷ [])))
+  end-turned o = grind (arith, nat_tests, text-turned, reverse-append)
 
   -- a `]` with an opener
   pub closes-opener : (links_end : ℕ) → has_opener inner ≡ false → holds_link inner ≡ nat_lt b.mark links_end → b.end ≤ at → at < length source

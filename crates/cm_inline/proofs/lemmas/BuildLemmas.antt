@@ -1,20 +1,16 @@
 -- What inlines events build, one after another.
-use Rattle.std.proofs.Common.{◌≡◌, ℕ, suc, ◌+◌, ◌-◌, ◌<◌, ◌≤◌, ◌==◌, not, ◌||◌, Bool, true, false, cond, List, [], ◌∷◌, ◌++◌, refl, sym, ap, ◌∙◌, arith, append_assoc}
+use Rattle.cm_inline.proofs.lemmas.Words.{◌≡◌, ℕ, suc, ◌+◌, ◌-◌, ◌<◌, ◌≤◌, true, List, [], ◌∷◌, ◌++◌, sym, ap, ◌∙◌, arith, append_assoc, list_all, and_parts, Emphasis}
+use Rattle.cm_inline.proofs.lemmas.Words.{rules}
 use Rattle.std.specs.Prelude.{replicate}
-use Rattle.std.specs.List.{list_all}
-use Rattle.std.proofs.lemmas.Bool.{and_parts}
-use Rattle.std.proofs.lemmas.List.{append-nil}
 use Rattle.cm_tree.specs.declared.tree.Inline.TheVariants as inlines
-use Rattle.cm_inline.specs.declared.runs.Emphasis.{Emphasis}
 use Rattle.cm_inline.specs.declared.runs.Run as held
 use Rattle.cm_inline.specs.declared.runs.Pair as made
-use Rattle.cm_inline.specs.steps.pairing.Events.{Event, Text, Rest, Whole, Start, End, Built, ended, add_text, build_one, build, made_of}
+use Rattle.cm_inline.specs.steps.pairing.Events.{Event, Start, End, Built, ended, add_text, build_one, build, made_of}
 use Rattle.cm_inline.specs.steps.pairing.Parts.{Pair, PairedRun, starts, ends_between, run_events, events_of}
 use Rattle.cm_inline.specs.steps.Building.{opened, closed}
 use Rattle.cm_inline.specs.steps.Marks.{text_event, texts, stays_text}
-use Rattle.cm_inline.specs.steps.Runs.{byte_of, tag_in, run_of, pairs_in, paired_run}
+use Rattle.cm_inline.specs.steps.Runs.{byte_of, tag_in, pairs_in, paired_run}
 use Rattle.cm_inline.proofs.lemmas.EventLemmas.{build-append}
-use Rattle.std.proofs.Common.{rules}
 
 -- text between marks, without a line feed
 

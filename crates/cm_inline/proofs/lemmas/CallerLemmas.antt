@@ -1,17 +1,12 @@
 -- What reading needs of runs and their pairs: a run that is added, and what a pass made as one segment.
-use Rattle.std.proofs.Common.{◌≡◌, ◌⊎◌, inl, inr, ℕ, suc, ◌+◌, ◌<◌, ◌≤◌, Bool, true, false, nat_lt, List, [], ◌∷◌, ◌++◌, length, get_or, refl, sym, ap, subst, arith, length-append}
-use Rattle.std.proofs.lemmas.List.{get_or_append_left, get_or_push, get_or_past}
-use Rattle.std.proofs.lemmas.Bool.{ltb-true, ltb-false}
-use Rattle.cm_tree.specs.declared.tree.Inline.{Inline}
-use Rattle.cm_scan.specs.inlines.Delimiters.{Run}
-use Rattle.cm_scan.specs.inlines.Pairing.{Finished, Linked, emphasis_of}
-use Rattle.cm_inline.specs.declared.runs.Runs.{Runs}
-use Rattle.cm_inline.specs.steps.pairing.Events.{Event, Text, Rest, Whole, Tag, Start, End, made_of}
+use Rattle.cm_inline.proofs.lemmas.Words.{◌≡◌, ℕ, suc, ◌+◌, ◌<◌, ◌≤◌, List, [], ◌∷◌, ◌++◌, length, refl, sym, subst, arith, length-append, get_or_append_left}
+use Rattle.cm_inline.proofs.lemmas.Words.{get_or_push, ltb-true, ltb-false, Inline, Run, Finished, Linked, emphasis_of, Runs, rules}
+use Rattle.std.proofs.lemmas.List.{get_or_past}
+use Rattle.cm_inline.specs.steps.pairing.Events.{Event, Rest, Tag, Start, End, made_of}
 use Rattle.cm_inline.specs.steps.pairing.Parts.{Pair, PairedRun, Part, Known, no_run as no_paired_run, events_of, Rising}
 use Rattle.cm_inline.specs.steps.pairing.Passes.{number_after, AllPaired}
 use Rattle.cm_inline.specs.steps.pairing.Readings.{IsAlone}
-use Rattle.cm_inline.specs.steps.pairing.Paired.{AreRuns}
-use Rattle.cm_inline.specs.steps.pairing.Segments.{Segment, Waiting, Made, items_in, all_parts, numbers_in, fresh, IsMade, AreSegments}
+use Rattle.cm_inline.specs.steps.pairing.Segments.{Segment, Waiting, Made, items_in, all_parts, fresh, IsMade, AreSegments}
 use Rattle.cm_inline.specs.steps.pairing.States.{AreChained}
 use Rattle.cm_inline.specs.steps.Runs.{runs_in, pairs_in}
 use Rattle.cm_inline.proofs.lemmas.ClosingLemmas.{parts-append, under-append}
@@ -19,9 +14,6 @@ use Rattle.cm_inline.proofs.lemmas.KeptLemmas.{segments-more, segments-under}
 use Rattle.cm_inline.proofs.lemmas.NumberLemmas.{nat-split as nat_split}
 use Rattle.cm_inline.proofs.lemmas.SegmentLemmas.{link-means}
 use Rattle.cm_inline.proofs.lemmas.LaidLemmas.{events-append}
-use Rattle.cm_inline.proofs.lemmas.OpenLemmas.{numbers-append}
-use Rattle.cm_inline.proofs.lemmas.StandLemmas.{runs-append}
-use Rattle.std.proofs.Common.{rules}
 
 -- a run is pushed
 

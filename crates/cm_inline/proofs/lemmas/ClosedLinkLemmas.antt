@@ -1,27 +1,13 @@
 -- A `]` that makes a link or an image.
-use Rattle.std.proofs.Common.{◌≡◌, ◌⊎◌, inl, inr, ℕ, zero, suc, ◌+◌, ◌<◌, ◌≤◌, ◌==◌, Bool, true, false, not, ◌||◌, List, [], ◌∷◌, ◌++◌, length, take, drop, get_or, set, reverse, Some, refl, sym, ap, subst, ◌∙◌, arith, append_assoc, append-nil, length-append}
-use Rattle.std.specs.Prelude.{nat_lt, if◌then◌else◌}
-use Rattle.std.specs.List.{slice_range}
-use Rattle.std.specs.Str.{IsCharBoundary}
-use Rattle.std.proofs.lemmas.Bool.Decides.{nat_tests}
-use Rattle.std.proofs.lemmas.List.{reverse-append, length-map}
+use Rattle.cm_inline.proofs.lemmas.Words.{◌≡◌, ◌⊎◌, inl, inr, ℕ, zero, suc, ◌+◌, ◌<◌, ◌≤◌, ◌==◌, Bool, true, false, not, ◌||◌, List, [], ◌∷◌, ◌++◌, length, take, drop}
+use Rattle.cm_inline.proofs.lemmas.Words.{get_or, set, reverse, Some, refl, sym, ap, subst, ◌∙◌, arith, append_assoc, append-nil, length-append, nat_lt, if◌then◌else◌}
+use Rattle.cm_inline.proofs.lemmas.Words.{slice_range, IsCharBoundary, nat_tests, reverse-append, length-map, Rules, Targets, defined_in, is_linked, holds_link, made}
+use Rattle.cm_inline.proofs.lemmas.Words.{Item, Finished, Opener, emphasis_of, pair_all, Bracket, Link, Reader, Mark, Kind, HeldPair, HeldRun, rules}
 use Rattle.std.proofs.Math.Seq.{set-append_seam}
-use Rattle.cm_text.specs.Rules.{Rules}
-use Rattle.cm_tree.specs.Definitions.{Targets}
-use Rattle.cm_scan.specs.inlines.Brackets.{defined_in, is_linked, holds_link, made}
-use Rattle.cm_scan.specs.inlines.Pairing.{Item, Finished, Linked, Opener, emphasis_of, pair_all}
-use Rattle.cm_inline.specs.declared.brackets.Bracket.{Bracket}
-use Rattle.cm_inline.specs.declared.brackets.Link.{Link}
 use Rattle.cm_inline.specs.declared.links.Target.{Target as PlacedTarget}
-use Rattle.cm_inline.specs.declared.brackets.Reader.{Reader}
-use Rattle.cm_inline.specs.declared.marks.Mark.{Mark}
-use Rattle.cm_inline.specs.declared.marks.Kind.{Kind}
 use Rattle.cm_inline.specs.declared.marks.Kind.TheVariants as kinds
-use Rattle.cm_inline.specs.declared.runs.Emphasis.{Emphasis}
-use Rattle.cm_inline.specs.declared.runs.Pair.{Pair as HeldPair}
-use Rattle.cm_inline.specs.declared.runs.Run.{Run as HeldRun}
 use Rattle.cm_tree.specs.declared.tree.Inline.TheVariants as inlines
-use Rattle.cm_inline.specs.steps.pairing.Events.{Event, Text, Rest, Whole, Start, End, Tag, LinkTag, made_of}
+use Rattle.cm_inline.specs.steps.pairing.Events.{Event, Rest, Start, End, Tag, LinkTag, made_of}
 use Rattle.cm_inline.specs.steps.pairing.Parts.{Pair, PairedRun, Part, Known, no_run as no_paired_run, chain, ends, run_events, part_events, events_of}
 use Rattle.cm_inline.specs.steps.pairing.Passes.{number_after, WaitFrom, AllPaired}
 use Rattle.cm_inline.specs.steps.pairing.Readings.{is_number, AreFree, IsAlone, starts_in}
@@ -32,7 +18,7 @@ use Rattle.cm_inline.specs.steps.Marks.{target_in, link_tag, tag_numbered, no_li
 use Rattle.cm_inline.specs.steps.Missing.{Knows}
 use Rattle.cm_inline.specs.steps.Pairs.{AreLooks, Keeps}
 use Rattle.cm_inline.specs.steps.Reads.{Stands}
-use Rattle.cm_inline.specs.steps.Runs.{runs_in, pairs_in, pair_in, tag_in}
+use Rattle.cm_inline.specs.steps.Runs.{runs_in, pairs_in, pair_in}
 use Rattle.cm_inline.proofs.lemmas.BracketLemmas.{closes-opener, link_made, closed_or}
 use Rattle.cm_inline.proofs.lemmas.CallerLemmas.{behind-append, segments-append, linked_parts, link-made, made-linked}
 use Rattle.cm_inline.proofs.lemmas.KeptLemmas.{behind-after, segments-split}
@@ -47,11 +33,9 @@ use Rattle.cm_inline.proofs.lemmas.RightBracketLemmas.{goes-on, old-items, both,
 use Rattle.cm_inline.proofs.lemmas.SliceLemmas.{slice-none}
 use Rattle.cm_inline.proofs.lemmas.StandLemmas.{runs-append}
 use Rattle.cm_inline.proofs.lemmas.LaidLemmas.{events-append}
-use Rattle.std.proofs.Common.{rules}
 
 pub or-none : (u : Bool) → u || false ≡ u
-or-none true = refl
-or-none false = refl
+or-none u = grind (arith, nat_tests)
 
 -- No link of a number ends among marks of links with lower numbers.
 
@@ -61,11 +45,7 @@ ArePlain n (p ∷ ps) = (is_number n p.tag ≡ false) × ArePlain n ps
 
 held-plain : (n : ℕ) (ps : List HeldPair) → ArePlain n (pairs_in ps)
 held-plain n [] = tt
-held-plain n (p ∷ ps) = (go p.emphasis, held-plain n ps)
-  where
-    go : (e : Emphasis) → is_number n (tag_in e) ≡ false
-    go Emphasis.Emph = refl
-    go _ = refl
+held-plain n (p ∷ ps) = search (rules, (held-plain n ps))
 
 plain-take : (n k : ℕ) (ps : List Pair) → ArePlain n ps → ArePlain n (take k ps)
 plain-take n zero ps h = tt
@@ -88,11 +68,7 @@ free-ends n (p ∷ ps) h = (h.0, free-ends n ps h.1)
 free-chain : (n : ℕ) (ps : List Pair) (k : ℕ) → AreFree n (chain ps k)
 unfolding chain
 free-chain n [] k = tt
-free-chain n (p ∷ ps) k = go (k == suc (length ps)) (free-chain n ps p.before) (free-chain n ps k)
-  where
-    go : (b : Bool) → AreFree n (chain ps p.before) → AreFree n (chain ps k) → AreFree n (if b then Start p.tag ∷ chain ps p.before else chain ps k)
-    go true h g = (tt, h)
-    go false h g = g
+free-chain n (p ∷ ps) k = search (rules, (free-chain n ps p.before), (free-chain n ps k))
 
 free-run : (n number : ℕ) (ps : List HeldPair) (x : PairedRun) → AreFree n (run_events (pairs_in ps) number x)
 free-run n number ps x =
@@ -102,11 +78,7 @@ free-run n number ps x =
 free-texts : (n : ℕ) (runs : List PairedRun) (pairs : List Pair) (text : List ℕ) → AreFree n (events_of runs pairs (texts text))
 unfolding events_of
 free-texts n runs pairs [] = tt
-free-texts n runs pairs (b ∷ bs) = go (b == 10) (free-texts n runs pairs bs)
-  where
-    go : (feed : Bool) → AreFree n (events_of runs pairs (texts bs)) → AreFree n ((if feed then Whole inlines.Soft else Text (b ∷ [])) ∷ events_of runs pairs (texts bs))
-    go true h = (tt, h)
-    go false h = (tt, h)
+free-texts n runs pairs (b ∷ bs) = search (rules, (free-texts n runs pairs bs))
 
 not-equal : (k n : ℕ) → k < n → (k == n) ≡ false
 not-equal k n h = grind (arith, nat_tests, h)
@@ -122,12 +94,7 @@ free-marks : (lines : Bool) (source : List ℕ) (targets : Targets) (held : List
     → AreFree n (events_of runs (pairs_in ps) (parts_between source targets links from to ms))
 unfolding parts_between events_of
 free-marks lines source targets held links n runs ps from to [] high laid = free-texts n runs (pairs_in ps) (slice_range source from to)
-free-marks lines source targets held links n runs ps from to (m ∷ ms) high laid =
-    subst (AreFree n) (sym (events-append runs (pairs_in ps) (texts (slice_range source from m.at)) (part_of source targets links m ∷ parts_between source targets links m.end to ms)))
-    (free-append n (events_of runs (pairs_in ps) (texts (slice_range source from m.at))) (part_events runs (pairs_in ps) (part_of source targets links m) ++ events_of runs (pairs_in ps) (parts_between source targets links m.end to ms))
-    (free-texts n runs (pairs_in ps) (slice_range source from m.at))
-    (free-append n (part_events runs (pairs_in ps) (part_of source targets links m)) (events_of runs (pairs_in ps) (parts_between source targets links m.end to ms))
-    (free-mark source targets held links n runs ps m.at m.end m.kind high laid.2) (free-marks lines source targets held links n runs ps m.end to ms high laid.3)))
+free-marks lines source targets held links n runs ps from to (m ∷ ms) high laid = search (rules, events-append, free-append, free-texts, free-mark, (free-marks lines source targets held links n runs ps m.end to ms high laid.3))
 
 made-lower : (runs : List PairedRun) (pairs : List Pair) (low higher : ℕ) (parts : List Part) (item : Item) (high : ℕ) → low ≤ higher → IsMade runs pairs higher parts item high → IsMade runs pairs low parts item high
 made-lower runs pairs low higher parts item high p m = search (rules, low, rising-lower)
@@ -135,22 +102,13 @@ made-lower runs pairs low higher parts item high p m = search (rules, low, risin
 -- a link or an image, as an item
 link-item : (runs : List PairedRun) (pairs : List Pair) (low : ℕ) (parts : List Part) (high n : ℕ) (image : Bool) (dest title : List ℕ) (inner : List Item)
     → IsMade runs pairs low parts (Finished (made_of (LinkTag n image dest title) (emphasis_of inner))) high → IsMade runs pairs low parts (made image dest title inner) high
-link-item runs pairs low parts high n false dest title inner m = made-linked runs pairs low parts (inlines.Link dest title (emphasis_of inner)) high m
-link-item runs pairs low parts high n true dest title inner m = go (holds_link inner)
-  where
-    go : (v : Bool) → IsMade runs pairs low parts (if v then Linked (inlines.Image dest title (emphasis_of inner)) else Finished (inlines.Image dest title (emphasis_of inner))) high
-    go true = made-linked runs pairs low parts (inlines.Image dest title (emphasis_of inner)) high m
-    go false = m
+link-item runs pairs low parts high n image dest title inner m = grind (arith, nat_tests, low, made-linked)
 
 link-linked : (image : Bool) (dest title : List ℕ) (inner : List Item) → is_linked (made image dest title inner) ≡ not image || holds_link inner
-link-linked false dest title inner = refl
-link-linked true dest title inner =
-    elim (holds_link inner) as (λ v. is_linked (if v then Linked (inlines.Image dest title (emphasis_of inner)) else Finished (inlines.Image dest title (emphasis_of inner))) ≡ v) [ true ↦ refl | false ↦ refl ]
+link-linked image dest title inner = grind (arith, nat_tests)
 
 link-closed : (image : Bool) (dest title : List ℕ) (inner : List Item) → is_opener (made image dest title inner) ≡ false
-link-closed false dest title inner = refl
-link-closed true dest title inner =
-    elim (holds_link inner) as (λ v. is_opener (if v then Linked (inlines.Image dest title (emphasis_of inner)) else Finished (inlines.Image dest title (emphasis_of inner))) ≡ false) [ true ↦ refl | false ↦ refl ]
+link-closed image dest title inner = grind (arith, nat_tests)
 
 -- A link or an image was made of the last bracket and of all that is behind it.
 pub record IsLinked (source : List ℕ) (at end : ℕ) (old new : Reader) (b : Bracket) (target : PlacedTarget) : Type 0 where

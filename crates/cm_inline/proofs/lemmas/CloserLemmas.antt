@@ -1,10 +1,8 @@
 -- What a run that closes comes to, by one pair after another.
-use Rattle.std.proofs.Common.{◌≡◌, ◌⊎◌, inl, inr, ℕ, ◌-◌, Bool, true, false, cond, nat_le, List, [], ◌∷◌, reverse, Some, None, refl, sym, ap, ◌∙◌}
-use Rattle.cm_scan.specs.inlines.Delimiters.{Run}
-use Rattle.cm_scan.specs.inlines.Pairing.{Item, Delimiters, Opened, nearest_opener, without, used}
-use Rattle.cm_scan.specs.inlines.OnePass.{up_to_pair, closer_left, closed_by, passed}
-use Rattle.cm_scan.proofs.lemmas.inlines.OnePassLemmas.{closed_by-none, closed_by-gone, closed_by-more}
-use Rattle.std.proofs.Common.{rules}
+use Rattle.cm_inline.proofs.lemmas.Words.{◌≡◌, ◌⊎◌, ℕ, ◌-◌, true, false, nat_le, List, [], ◌∷◌, reverse, Some, None, ap, ◌∙◌, Run, Item, Delimiters, Opened}
+use Rattle.cm_inline.proofs.lemmas.Words.{nearest_opener, without, used, up_to_pair, passed, closed_by-gone, closed_by-more, rules, nat_tests, arith}
+use Rattle.cm_scan.specs.inlines.OnePass.{closed_by}
+use Rattle.cm_scan.proofs.lemmas.inlines.OnePassLemmas.{closed_by-none}
 
 pub pass-closer : (before : List Item) (closer : Run) → closer.closes ≡ true → passed before (Delimiters closer) ≡ closed_by before closer
 pass-closer before closer e = ap (λ b. elim b as (λ _. List Item) [ true ↦ closed_by before closer | false ↦ Delimiters closer ∷ before ]) e
@@ -14,12 +12,7 @@ pass-other before closer e = ap (λ b. elim b as (λ _. List Item) [ true ↦ cl
 
 -- a run that closes nothing, or finds no opener, stays
 pub pass-stays : (before : List Item) (closer : Run) → (closer.closes ≡ false) ⊎ (nearest_opener closer before [] ≡ None) → passed before (Delimiters closer) ≡ Delimiters closer ∷ before
-pass-stays before closer (inl h) = pass-other before closer h
-pass-stays before closer (inr h) = go closer.closes refl
-  where
-    go : (b : Bool) → closer.closes ≡ b → passed before (Delimiters closer) ≡ Delimiters closer ∷ before
-    go true e = pass-closer before closer e ∙ closed_by-none before closer h
-    go false e = pass-other before closer e
+pass-stays before closer x2 = grind (arith, nat_tests, pass-other, pass-closer, closed_by-none)
 
 abbrev first_run : Run → List Item → Run
 first_run run (Delimiters r ∷ items) = r

@@ -1,14 +1,10 @@
 -- What the code writes while a closer makes its pairs is what the steps of the closer's loop say.
-use Rattle.std.proofs.Common.{◌≡◌, ◌⊎◌, inl, inr, ℕ, zero, suc, ◌+◌, ◌-◌, ◌<◌, ◌≤◌, Bool, true, false, nat_le, List, [], ◌∷◌, ◌++◌, length, take, drop, reverse, get_or, set, Some, None, refl, sym, ap, subst, ◌∙◌, arith}
-use Rattle.std.proofs.lemmas.List.{length-map, map-set}
-use Rattle.std.proofs.lemmas.Bool.{cond-true, cond-false, le-leb, leb-true}
-use Rattle.cm_scan.specs.inlines.Delimiters.{Run}
-use Rattle.cm_scan.specs.inlines.Pairing.{Item, Delimiters, used, without}
-use Rattle.cm_inline.specs.declared.runs.Run.{Run as HeldRun}
-use Rattle.cm_inline.specs.declared.runs.Runs.{Runs}
+use Rattle.cm_inline.proofs.lemmas.Words.{◌≡◌, ◌⊎◌, inl, inr, ℕ, zero, suc, ◌+◌, ◌-◌, ◌<◌, ◌≤◌, Bool, true, false, nat_le, List, [], ◌∷◌, ◌++◌, length, drop, get_or}
+use Rattle.cm_inline.proofs.lemmas.Words.{set, Some, None, refl, sym, ap, subst, ◌∙◌, arith, length-map, map-set, cond-true, cond-false, le-leb, leb-true, Run, Item}
+use Rattle.cm_inline.proofs.lemmas.Words.{Delimiters, used, HeldRun, Runs, rules}
 use Rattle.cm_inline.specs.steps.pairing.ClosingRuns.{State, so_far, PartsHold, CloserGoesOn, CloserDone, PartAdded, PassGoesOn}
-use Rattle.cm_inline.specs.steps.pairing.Events.{Event, Text, Rest, Whole, Start, End, tag_of}
-use Rattle.cm_inline.specs.steps.pairing.Parts.{Pair, PairedRun, Part, Numbered, Known, ends, no_run as no_paired_run, run_events, events_of, with_pair, with_opened, HaveNoRun, AreParts}
+use Rattle.cm_inline.specs.steps.pairing.Events.{Event, Rest, tag_of}
+use Rattle.cm_inline.specs.steps.pairing.Parts.{PairedRun, Part, Numbered, Known, ends, no_run as no_paired_run, events_of, with_pair}
 use Rattle.cm_inline.specs.steps.pairing.Stacks.{Stacked, taken}
 use Rattle.cm_inline.specs.steps.pairing.States.{state_of, RunSteps, with_left}
 use Rattle.cm_inline.specs.steps.Entries.{Entry}
@@ -16,12 +12,11 @@ use Rattle.cm_inline.specs.steps.Openers.{Stack, leaving}
 use Rattle.cm_inline.specs.steps.Runs.{paired_run, run_of, pair_in, runs_in, pairs_in}
 use Rattle.cm_inline.specs.steps.Searching.{kind, IsMarked, find_opener, looks_for, from_found}
 use Rattle.cm_inline.proofs.lemmas.ClosingLemmas.{pair_written, raised, closing-further, closing-ends, closing-fails, closed_run, put-finished, next-gone, next-text, next-opener}
-use Rattle.cm_inline.proofs.lemmas.PartLemmas.{ends-none, chain-none, AreSuch, AllOf, such-none, such-append, such-parts}
+use Rattle.cm_inline.proofs.lemmas.PartLemmas.{ends-none, AreSuch, AllOf, such-none, such-append, such-parts}
 use Rattle.cm_inline.proofs.lemmas.SearchLemmas.{FoundBy, find-found}
 use Rattle.cm_inline.proofs.lemmas.StackLemmas.{Found, stacked-found}
 use Rattle.cm_inline.proofs.lemmas.StateLemmas.{MakesPair, steps-fails, leaving-rest, left-in, cut_run, same-list, same-state}
 use Rattle.cm_inline.proofs.lemmas.WaitLemmas.{passed_by}
-use Rattle.std.proofs.Common.{rules}
 
 -- what is left of a run among events is what is left of the run of that number
 abbrev pub AreHeld : List PairedRun → List Event → Type 0

@@ -1,11 +1,8 @@
 -- The steps of the loops of the code.
-use Rattle.std.proofs.Common.{◌≡◌, ◌⊎◌, inl, inr, ℕ, suc, ◌+◌, ◌<◌, ◌≤◌, Bool, true, false, cond, ◌==◌, nat_le, List, [], ◌∷◌, ◌++◌, length, take, drop, reverse, get_or, set, Some, None, refl, sym, ap, subst, ◌∙◌, arith, append-nil, append_assoc, length-append}
-use Rattle.std.proofs.lemmas.List.{reverse-append, get_or-set_same, get_or-set_other, length-set, take_all}
-use Rattle.std.proofs.lemmas.Bool.{cond-false, ne_eqb, leb-true, le-leb}
-use Rattle.cm_scan.specs.inlines.Delimiters.{Run}
-use Rattle.cm_scan.specs.inlines.Pairing.{Item, Finished, Delimiters, Opened, nearest_opener, used, without, emphasised, settled}
-use Rattle.cm_scan.specs.inlines.OnePass.{up_to_pair, passed}
-use Rattle.cm_scan.proofs.lemmas.inlines.PairingLemmas.{opened_at}
+use Rattle.cm_inline.proofs.lemmas.Words.{◌≡◌, inr, ℕ, suc, ◌+◌, ◌<◌, ◌≤◌, Bool, true, false, cond, ◌==◌, nat_le, List, [], ◌∷◌, ◌++◌, length, drop, reverse, get_or}
+use Rattle.cm_inline.proofs.lemmas.Words.{set, Some, None, refl, sym, ap, subst, ◌∙◌, arith, append-nil, append_assoc, length-append, reverse-append, get_or-set_same}
+use Rattle.cm_inline.proofs.lemmas.Words.{get_or-set_other, length-set, take_all, cond-false, ne_eqb, leb-true, le-leb, Run, Item, Delimiters, Opened, nearest_opener}
+use Rattle.cm_inline.proofs.lemmas.Words.{used, without, up_to_pair, passed, opened_at, rules}
 use Rattle.cm_inline.specs.steps.Entries.{Entry, Listed}
 use Rattle.cm_inline.specs.steps.Openers.{spent}
 use Rattle.cm_inline.specs.steps.Pairs.{items_emphases}
@@ -17,23 +14,19 @@ use Rattle.cm_inline.proofs.lemmas.PairDepthLemmas.{reverse-depth, settled-items
 use Rattle.cm_inline.proofs.lemmas.EmphasisLemmas.{pair-holds, reversed-hold}
 use Rattle.cm_inline.proofs.lemmas.CloserLemmas.{pass-other, pass-further, pass-ends, pass-stays}
 use Rattle.cm_inline.proofs.lemmas.SearchLemmas.{FoundBy}
-use Rattle.cm_inline.specs.steps.pairing.ClosingRuns.{AreUnder, State, so_far, PartsHold, Closing, last_depth, CloserGoesOn, CloserDone, PartAdded, PassGoesOn}
-use Rattle.cm_inline.specs.steps.pairing.Events.{Event, Text, Rest, Whole, Tag, Start, End, tag_of}
-use Rattle.cm_inline.specs.steps.pairing.Parts.{Pair, PairedRun, Part, Numbered, Known, chain, ends, no_run, run_events, part_events, events_of, with_pair, with_opened, opened_event, open_at, Rising, HaveNoRun, AreParts}
+use Rattle.cm_inline.specs.steps.pairing.ClosingRuns.{AreUnder, State, so_far, PartsHold, last_depth, CloserGoesOn, CloserDone, PartAdded, PassGoesOn}
+use Rattle.cm_inline.specs.steps.pairing.Events.{Event, Rest, Tag, Start, tag_of}
+use Rattle.cm_inline.specs.steps.pairing.Parts.{Pair, PairedRun, Part, Numbered, Known, chain, ends, no_run, run_events, events_of, with_pair, with_opened, opened_event, open_at, Rising, HaveNoRun, AreParts}
 use Rattle.cm_inline.specs.steps.pairing.Readings.{starts_in}
-use Rattle.cm_inline.specs.steps.pairing.Stacks.{taken}
 use Rattle.cm_inline.specs.steps.pairing.WaitingOpeners.{WaitAsOpeners}
-use Rattle.cm_inline.proofs.lemmas.PartLemmas.{ends-none, chain-none, pair-written, open-starts, pair-events-written, AreSuch, such-none, such-append, such-parts, under-all}
+use Rattle.cm_inline.proofs.lemmas.PartLemmas.{ends-none, pair-written, open-starts, pair-events-written, AreSuch, such-none, such-append, such-parts, under-all}
 use Rattle.cm_inline.proofs.lemmas.ReadingLemmas.{starts-append}
-use Rattle.cm_inline.proofs.lemmas.StackLemmas.{pair_events}
-use Rattle.cm_inline.proofs.lemmas.WaitLemmas.{Pairs, after_pair, waits-pairs, Fails, with_looks, waits-fails, passed_by, waits-opener, waits-text, waits-gone}
+use Rattle.cm_inline.proofs.lemmas.WaitLemmas.{after_pair, waits-pairs, with_looks, waits-fails, passed_by, waits-opener, waits-text, waits-gone}
 use Rattle.cm_inline.proofs.lemmas.LaidLemmas.{events-append}
-use Rattle.std.proofs.Common.{rules}
 
 -- the numbers stay
 rising-put : (low number count n : ℕ) (tag : Tag) (r : Run) (fs : List Event) → low ≤ n → Rising (suc n) fs → Rising low (opened_event number count tag (Rest n r) ++ fs)
-rising-put low number count n tag r fs h g =
-    elim (n == number) as (λ b. Rising low (cond b (Rest n (taken count r) ∷ Start tag ∷ []) (Rest n r ∷ []) ++ fs)) [ true ↦ (h, g) | false ↦ (h, g) ]
+rising-put low number count n tag r fs h g = search rules
 
 pub rising-open : (low number count : ℕ) (tag : Tag) (fs : List Event) → Rising low fs → Rising low (open_at number count tag fs)
 unfolding open_at
@@ -63,10 +56,7 @@ run-kept number count n tag runs pairs within opened to = search (rules, nat_spl
 
 pub parts-kept : (number count : ℕ) (tag : Tag) (runs : List PairedRun) (pairs : List Pair) (parts : List Part) → AreParts runs pairs parts → AreParts (with_opened number count runs pairs) (with_pair tag number runs pairs) parts
 parts-kept number count tag runs pairs [] h = tt
-parts-kept number count tag runs pairs (Numbered n ∷ ms) h =
-    let kept = run-kept number count n tag runs pairs h.0 h.1 h.2 in
-    let old = get_or runs number no_run in
-    (omega (arith, h.0, length-set runs number (record { run = taken count old.run; opened = length pairs + 1; from = old.from; to = old.to })), kept.0, kept.1, parts-kept number count tag runs pairs ms h.3)
+parts-kept number count tag runs pairs (Numbered n ∷ ms) h = search (rules, run-kept, length-set, (parts-kept number count tag runs pairs ms h.3))
 parts-kept number count tag runs pairs (Known fs ∷ ms) h = (h.0, parts-kept number count tag runs pairs ms h.1)
 
 -- the code's writes for a pair
@@ -121,8 +111,7 @@ holds-pairs parts first c s before e w g =
 
 -- the loop of a closer: it begins with no pair
 pub closing-begins : (parts : List Part) (s : State) (run : Run) (before : List Item) → PartsHold parts (length s.pairs) s before → CloserGoesOn parts s run before s run
-closing-begins parts s run before w =
-    record { before = before; closing = record { holds = w; same = refl; goes = refl; paid = λ kinds known. omega arith; made = omega arith; next = refl; long = refl; starts = omega arith }; nested = omega arith }
+closing-begins parts s run before w = search rules
 
 pub same-kind : (left : ℕ) (run c : Run) → record run { left = left } ≡ c → kind run ≡ kind c
 unfolding kind
@@ -171,20 +160,11 @@ closing-ends parts old run c had s e h go g left =
     let w = go.closing in
     let p = holds-pairs parts (length old.pairs) c s go.before e w.holds g in
     let found = opened_at e.run p.low p.inside in
-    record {
-      before = reverse (up_to_pair found c);
-      rest = [];
-      holds = p.holds;
-      goes = sym (pass-ends go.before c found h p.nearest left) ∙ w.goes;
-      rest_is = refl;
-      paid = λ kinds known. omega (arith, p.paid kinds, w.paid kinds known);
-      made = omega (arith, w.made, p.made, pair-holds go.before c found p.nearest, reversed-hold (up_to_pair found c));
-      starts = omega (arith, w.starts, p.starts);
-    }
+    search (rules, (reverse (up_to_pair found c)), (sym (pass-ends go.before c found h p.nearest left) ∙ w.goes), pair-holds go.before c found p.nearest,
+        reversed-hold (up_to_pair found c))
 
 not-none : (n : ℕ) → 1 ≤ n → nat_le n 0 ≡ false
-not-none n p =
-    (elim (nat_le n 0) as (λ b. nat_le n 0 ≡ b → nat_le n 0 ≡ false) [ true ↦ λ h. let few : n ≤ 0 = leb-true n 0 h in absurd (omega (arith, few, p)) | false ↦ λ h. h ]) refl
+not-none n p = search (rules, leb-true)
 
 -- no opener is left: its bottom is raised
 abbrev pub raised : Run → State → State
@@ -224,15 +204,12 @@ so-far-starts parts first s = omega (arith, starts-append (events_of s.runs s.pa
 pub events-elsewhere : (n : ℕ) (now : PairedRun) (runs : List PairedRun) (pairs : List Pair) (ms : List Part) → AreUnder n ms → events_of (set runs n now) pairs ms ≡ events_of runs pairs ms
 unfolding events_of
 events-elsewhere n now runs pairs [] h = refl
-events-elsewhere n now runs pairs (Numbered k ∷ ms) h =
-    ap (λ r. run_events pairs k r ++ events_of (set runs n now) pairs ms) (get_or-set_other runs n k now no_run (λ e. absurd (omega (arith, e, h.0)))) ∙ ap (λ t. run_events pairs k (get_or runs k no_run) ++ t) (events-elsewhere n now runs pairs ms h.1)
+events-elsewhere n now runs pairs (Numbered k ∷ ms) h = search (rules, get_or-set_other, (events-elsewhere n now runs pairs ms h.1))
 events-elsewhere n now runs pairs (Known fs ∷ ms) h = ap (λ t. fs ++ t) (events-elsewhere n now runs pairs ms h)
 
 pub parts-elsewhere : (n : ℕ) (now : PairedRun) (runs : List PairedRun) (pairs : List Pair) (ms : List Part) → AreUnder n ms → AreParts runs pairs ms → AreParts (set runs n now) pairs ms
 parts-elsewhere n now runs pairs [] u h = tt
-parts-elsewhere n now runs pairs (Numbered k ∷ ms) u h =
-    let same = get_or-set_other runs n k now no_run (λ e. absurd (omega (arith, e, u.0))) in
-    (omega (arith, h.0, length-set runs n now), omega (arith, h.1, ap (λ (p : PairedRun). p.opened) same), omega (arith, h.2, ap (λ (p : PairedRun). p.to) same), parts-elsewhere n now runs pairs ms u.1 h.3)
+parts-elsewhere n now runs pairs (Numbered k ∷ ms) u h = search (rules, get_or-set_other, length-set, (parts-elsewhere n now runs pairs ms u.1 h.3))
 parts-elsewhere n now runs pairs (Known fs ∷ ms) u h = (h.0, parts-elsewhere n now runs pairs ms u h.1)
 
 pub parts-append : (runs : List PairedRun) (pairs : List Pair) (ms ns : List Part) → AreParts runs pairs ms → AreParts runs pairs ns → AreParts runs pairs (ms ++ ns)
@@ -317,25 +294,16 @@ put-finished parts old number left run had s within at d =
 pub put-other : (parts : List Part) (s : State) (number : ℕ) (run : Run) (had : List Item) → number < length s.runs → number ≡ s.list.next → get_or s.runs number no_run ≡ closed_run run 0 0 → run.closes ≡ false → 1 ≤ run.left → PartsHold parts (length s.pairs) s had
     → PartAdded parts s run had s number run.left
 unfolding events_of
-put-other parts s number run had within at is other some w =
-    search (rules, drop-all, append-nil, events-append, chain-zero, parts-append, rising-behind, low-so-far, pass-other, cond-false, not-none, so-far-starts)
+put-other parts s number run had within at is other some w = search (rules, drop-all, append-nil, events-append, chain-zero, parts-append, rising-behind, low-so-far, pass-other, cond-false, not-none, so-far-starts)
 
 -- The pass goes on, and the list is as waits-opener, waits-text or waits-gone has it.
 pub next-put : (parts : List Part) (old : State) (run : Run) (had : List Item) (s : State) (number left : ℕ) (list : Listed) (after : List Item) → (p : PartAdded parts old run had s number left) → list.next ≡ number + 1 → after ≡ passed had (Delimiters run)
     → WaitAsOpeners (p.events ++ Rest number (record run { left = left }) ∷ []) after list s.bottoms → ((kinds : ℕ) → kind run < kinds → spent kinds list s.bottoms ≤ spent kinds old.list old.bottoms + (kinds + 1 + run.left))
     → old.list.looks + items_emphases after ≤ list.looks + items_emphases had → PassGoesOn parts old run had (record s { list = list }) number
-next-put parts old run had s number left list after p next is waits paid made = record {
-  holds = subst (PartsHold (parts ++ Numbered number ∷ []) (length s.pairs) (record s { list = list })) is (record {
-    waits = subst (λ fs. WaitAsOpeners fs after list s.bottoms) (sym p.whole) waits;
-    marked = p.marked;
-    under = under-append number list.next parts (Numbered number ∷ []) (omega (arith, next)) p.under (omega (arith, next), tt);
-    rising = subst (Rising 0) (sym p.whole) p.rising;
-    early = omega arith;
-  });
-  paid = paid;
-  made = omega (arith, made, ap items_emphases (sym is));
-  starts = omega (arith, p.starts, ap starts_in p.whole, so-far-starts (parts ++ Numbered number ∷ []) (length s.pairs) s, starts-append p.events (Rest number (record run { left = left }) ∷ []));
-}
+next-put parts old run had s number left list after p next is waits paid made = search (rules,
+    (subst (PartsHold (parts ++ Numbered number ∷ []) (length s.pairs) (record s { list = list })) is (record { waits = subst (λ fs. WaitAsOpeners fs after list s.bottoms) (sym p.whole) waits; marked = p.marked; under = under-append number list.next parts (Numbered number ∷ []) (omega (arith, next)) p.under (omega (arith, next), tt); rising = subst (Rising 0) (sym p.whole) p.rising; early = omega arith; })),
+    paid, made, ap items_emphases (sym is), ap starts_in p.whole, so-far-starts (parts ++ Numbered number ∷ []) (length s.pairs) s,
+    starts-append p.events (Rest number (record run { left = left }) ∷ []))
 
 left-over : (parts : List Part) (old : State) (run : Run) (had : List Item) (s : State) (number left : ℕ) (p : PartAdded parts old run had s number left) (b : Bool) → nat_le left 0 ≡ b → cond b [] (Delimiters (record run { left = left }) ∷ []) ++ p.before ≡ passed had (Delimiters run)
 left-over parts old run had s number left p b h = ap (λ k. cond k [] (Delimiters (record run { left = left }) ∷ []) ++ p.before) (sym h) ∙ ap (λ t. t ++ p.before) (sym p.rest_is) ∙ p.goes

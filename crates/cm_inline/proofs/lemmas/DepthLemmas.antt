@@ -1,13 +1,6 @@
 -- How deep an inline nests that contains no other.
-use Rattle.std.proofs.Common.{◌≡◌, ℕ, ◌+◌, ◌-◌, ◌≤◌, ◌++◌, Bool, List, [], ◌∷◌, ap, max, arith}
-use Rattle.std.specs.List.{slice_range}
-use Rattle.cm_tree.specs.declared.tree.Inline.{Inline}
-use Rattle.cm_scan.specs.spans.CodeSpans.{one_line}
-use Rattle.cm_tree.specs.declared.tree.Inline.TheVariants.{Text, Code, Html, Soft, Hard}
-use Rattle.cm_tree.specs.declared.tree.Inline.TheViews.{outs-Text, outs-Code, outs-Html, outs-Soft, outs-Hard, outs-Link}
-use Rattle.cm_tree.specs.declared.tree.Inline.TheFolds.{fold_out-Inline}
-use Rattle.cm_tree.specs.Depth.{depth_step, depth_of, inlines_depth}
-use Rattle.cm_inline.specs.declared.marks.Kind.{Kind}
+use Rattle.cm_inline.proofs.lemmas.Words.{◌≡◌, ℕ, ◌+◌, ◌-◌, ◌≤◌, ◌++◌, Bool, List, [], ◌∷◌, ap, max, arith, Inline, Text, Code, Html, Soft, Hard, outs-Code, outs-Html}
+use Rattle.cm_inline.proofs.lemmas.Words.{outs-Soft, outs-Hard, outs-Link, fold_out-Inline, depth_step, depth_of, inlines_depth, Kind, nat_tests}
 use Rattle.cm_inline.specs.declared.marks.Kind.TheVariants as kinds
 use Rattle.cm_inline.specs.steps.Reads.{inline_in}
 use Rattle.cm_inline.specs.steps.Standalone.{autolink}
@@ -32,11 +25,7 @@ autolink-depth is_address text =
 
 -- so it nests one deep at most
 pub inline-shallow : (source : List ℕ) (at end : ℕ) (kind : Kind) → depth_of (inline_in source at end kind) ≤ 1
-inline-shallow source at end (kinds.Code from to) = omega (arith, code-depth (one_line (slice_range source from to)))
-inline-shallow source at end kinds.Html = omega (arith, html-depth (slice_range source at end))
-inline-shallow source at end (kinds.Autolink is_address) = omega (arith, autolink-depth is_address (slice_range source (at + 1) (end - 1)))
-inline-shallow source at end kinds.Hard = omega (arith, hard-depth)
-inline-shallow source at end _ = omega (arith, soft-depth)
+inline-shallow source at end kind = grind (arith, nat_tests, code-depth, html-depth, autolink-depth, hard-depth, soft-depth)
 
 -- inlines with one more after them
 pub one-more-depth : (inlines all : List Inline) (last : Inline) → all ≡ inlines ++ last ∷ [] → (inlines_depth inlines ≤ inlines_depth all) × (depth_of last ≤ inlines_depth all)

@@ -1,18 +1,11 @@
 -- How many of emphasis, strong emphasis and strikethrough items hold, and what is made of them.
-use Rattle.std.proofs.Common.{◌≡◌, ℕ, ◌+◌, ◌-◌, Bool, true, false, nat_le, ◌==◌, List, [], ◌∷◌, ◌++◌, reverse, Some, refl, ap, arith, zero-add, sym, ◌∙◌}
-use Rattle.std.specs.Prelude.{if◌then◌else◌, replicate}
-use Rattle.std.proofs.lemmas.List.{reverse-append}
-use Rattle.cm_tree.specs.declared.tree.Inline.{Inline}
-use Rattle.cm_tree.specs.declared.tree.Inline.TheVariants.{Text, Code, Html, Soft, Hard, Emph, Strong, Strike, Link, Image}
-use Rattle.cm_tree.specs.declared.tree.Inline.TheViews.{outs-Text, outs-Code, outs-Html, outs-Soft, outs-Hard, outs-Emph, outs-Strong, outs-Strike, outs-Link, outs-Image}
-use Rattle.cm_tree.specs.declared.tree.Inline.TheFolds.{fold_out-Inline}
-use Rattle.cm_scan.specs.spans.Autolinks.{Autolink}
-use Rattle.cm_scan.specs.inlines.Atoms.{link_of}
-use Rattle.cm_scan.specs.inlines.Delimiters.{Run}
-use Rattle.cm_scan.specs.inlines.Pairing.{Item, Characters, Finished, Linked, Delimiters, Opener, Opened, bracket_text, text_before, settled_after, settled, emphasis_of, emphasised, used, without, nearest_opener}
-use Rattle.cm_scan.specs.inlines.Brackets.{holds_link, made}
-use Rattle.cm_scan.specs.inlines.OnePass.{up_to_pair}
-use Rattle.cm_scan.proofs.lemmas.inlines.PairingLemmas.{nearest-splits}
+use Rattle.cm_inline.proofs.lemmas.Words.{◌≡◌, ℕ, ◌+◌, ◌-◌, Bool, true, false, nat_le, ◌==◌, List, [], ◌∷◌, ◌++◌, reverse, Some, refl, ap, arith, sym, ◌∙◌}
+use Rattle.cm_inline.proofs.lemmas.Words.{if◌then◌else◌, reverse-append, Inline, Text, Code, Html, Soft, Hard, Emph, Strong, Strike, Image, outs-Text, outs-Code}
+use Rattle.cm_inline.proofs.lemmas.Words.{outs-Html, outs-Soft, outs-Hard, outs-Emph, outs-Strong, outs-Strike, outs-Link, outs-Image, fold_out-Inline, Autolink}
+use Rattle.cm_inline.proofs.lemmas.Words.{link_of, Run, Item, Finished, Linked, Delimiters, Opened, text_before, settled_after, settled, emphasis_of, emphasised, used}
+use Rattle.cm_inline.proofs.lemmas.Words.{without, nearest_opener, made, up_to_pair, nearest-splits, nat_tests}
+use Rattle.std.proofs.Common.{zero-add}
+use Rattle.cm_tree.specs.declared.tree.Inline.TheVariants.{Link}
 use Rattle.cm_inline.specs.Emphases.{emphases_step, emphases_of, emphases}
 use Rattle.cm_inline.specs.steps.Pairs.{items_emphases}
 
@@ -61,8 +54,7 @@ emphasised-holds character count content = go (character == 126) (count == 2)
     go false false = simp (fold_out-Inline ℕ emphases_step, outs-Emph)
 
 text-first : (text : List ℕ) (inlines : List Inline) → emphases (text_before text inlines) ≡ emphases inlines
-text-first [] inlines = refl
-text-first (b ∷ bs) inlines = omega (arith, text-holds (b ∷ bs))
+text-first text inlines = grind (arith, nat_tests, text-holds)
 
 settled-after : (text : List ℕ) (items : List Item) → emphases (settled_after text items) ≡ items_emphases items
 unfolding settled_after
@@ -99,9 +91,4 @@ pair-holds before closer found is =
 
 -- a link or an image holds what its content holds
 pub made-holds : (image : Bool) (dest title : List ℕ) (inside : List Item) → items_emphases (made image dest title inside ∷ []) ≡ emphases (emphasis_of inside)
-made-holds false dest title inside = omega (arith, link-holds dest title (emphasis_of inside))
-made-holds true dest title inside = go (holds_link inside)
-  where
-    go : (v : Bool) → items_emphases ((if v then Linked (Image dest title (emphasis_of inside)) else Finished (Image dest title (emphasis_of inside))) ∷ []) ≡ emphases (emphasis_of inside)
-    go true = omega (arith, image-holds dest title (emphasis_of inside))
-    go false = omega (arith, image-holds dest title (emphasis_of inside))
+made-holds image dest title inside = grind (arith, nat_tests, link-holds, image-holds)

@@ -1,12 +1,7 @@
 -- A start and an end round events that stand for items.
-use Rattle.std.proofs.Common.{◌≡◌, ℕ, Bool, true, false, cond, ◌==◌, List, [], ◌∷◌, ◌++◌, replicate, zero, refl, sym, ap, ◌∙◌, append-nil, append_assoc}
-use Rattle.std.proofs.lemmas.List.{map-append}
-use Rattle.cm_tree.specs.declared.tree.Inline.{Inline}
-use Rattle.cm_tree.specs.declared.tree.Inline.TheVariants.{Emph, Strong, Strike}
-use Rattle.cm_scan.specs.inlines.Delimiters.{Run}
-use Rattle.cm_scan.specs.inlines.Pairing.{Item, Characters, Finished, Linked, Delimiters, Opener, text_before, settled, settled_after, emphasised}
-use Rattle.cm_inline.specs.steps.pairing.Events.{Event, Rest, Tag, Emphasis, StrongEmphasis, Strikethrough, Start, End, Built, made_of, tag_of, ended, innermost, others, add_text, build_one, build, leaf, leaves, Means, nothing_built, inlines_of}
-use Rattle.std.proofs.Common.{rules}
+use Rattle.cm_inline.proofs.lemmas.Words.{◌≡◌, ℕ, List, [], ◌∷◌, ◌++◌, zero, refl, sym, ap, ◌∙◌, append_assoc, map-append, Inline, Run, Item, Characters, Finished}
+use Rattle.cm_inline.proofs.lemmas.Words.{Linked, Delimiters, Opener, text_before, settled, settled_after, emphasised, rules, nat_tests, arith}
+use Rattle.cm_inline.specs.steps.pairing.Events.{Event, Rest, Tag, Start, End, Built, made_of, tag_of, ended, innermost, others, build_one, build, leaf, leaves, Means, nothing_built, inlines_of}
 
 pub build-append : (m : Built) (fs gs : List Event) → build m (fs ++ gs) ≡ build (build m fs) gs
 unfolding build
@@ -15,8 +10,7 @@ build-append m (f ∷ fs) gs = build-append (build_one m f) fs gs
 
 -- events behind one another stand for items behind one another
 pub means-append : (fs gs : List Event) (xs ys : List Item) → Means fs xs → Means gs ys → Means (fs ++ gs) (xs ++ ys)
-means-append fs gs xs ys f g m =
-    build-append m fs gs ∙ g (build m fs) ∙ ap (λ t. build t (leaves ys)) (f m) ∙ sym (build-append m (leaves xs) (leaves ys)) ∙ ap (build m) (sym (map-append leaf xs ys))
+means-append fs gs xs ys f g m = search (rules, build-append, map-append)
 
 pub means-none : Means [] []
 means-none m = refl
@@ -26,8 +20,7 @@ unfolding build
 means-rest number r m = refl
 
 text-split : (text : List ℕ) (more : List Inline) → text_before text more ≡ text_before text [] ++ more
-text-split [] more = refl
-text-split (b ∷ bs) more = refl
+text-split text more = grind (arith, nat_tests)
 
 -- what items make of what holds before them
 pub leaves-outer : (items : List Item) (m : Built) → (build m (leaves items)).outer ≡ m.outer

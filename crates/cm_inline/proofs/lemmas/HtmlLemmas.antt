@@ -1,16 +1,10 @@
 -- Texts in HTML.
-use Rattle.std.proofs.Common.{◌≡◌, ℕ, zero, suc, ◌+◌, ◌-◌, ◌<◌, ◌≤◌, ◌==◌, ◌||◌, not, cond, Bool, true, false, List, [], ◌∷◌, ◌++◌, take, drop, refl, sym, ap, ◌∙◌, arith, append_assoc, take-add, drop-drop}
-use Rattle.std.specs.Prelude.{replicate, Result, Ok, Err, OnOk}
-use Rattle.std.specs.List.{slice_range, list_all}
-use Rattle.std.proofs.lemmas.Grind.{flat_map-append}
-use Rattle.std.proofs.lemmas.Bool.{and_parts}
-use Rattle.cm_html.specs.Escape.{escape_byte, escape}
-use Rattle.cm_scan.specs.spans.CodeSpans.{one_line}
-use Rattle.cm_inline.specs.declared.delimiter_runs.Marker.{Marker}
-use Rattle.cm_inline.specs.declared.delimiter_runs.Marker.TheVariants.{Star, Underscore, Tilde}
+use Rattle.cm_inline.proofs.lemmas.Words.{◌≡◌, ℕ, zero, suc, ◌+◌, ◌-◌, ◌<◌, true, false, List, [], ◌∷◌, ◌++◌, refl, sym, ap, ◌∙◌, arith, append_assoc, Result, OnOk}
+use Rattle.cm_inline.proofs.lemmas.Words.{list_all, flat_map-append, and_parts, escape_byte, escape, one_line, Marker, Star, Tilde, rules, nat_tests}
+use Rattle.std.specs.Prelude.{replicate}
+use Rattle.cm_inline.specs.declared.delimiter_runs.Marker.TheVariants.{Underscore}
 use Rattle.cm_inline.specs.steps.Marks.{stays_text}
 use Rattle.cm_inline.specs.steps.Runs.{byte_of}
-use Rattle.std.proofs.Common.{rules}
 
 -- the text of a run is its own HTML
 pub run-html : (marker : Marker) (n : ℕ) → escape (replicate n (byte_of marker)) ≡ replicate n (byte_of marker)
@@ -41,5 +35,4 @@ text-html (b ∷ bs) h =
 
 -- what follows where there was memory
 pub on-ok : {T E : Type 0} {P Q : Type 0} (r : Result T E) → OnOk r P → (P → Q) → OnOk r Q
-on-ok (Ok x) p f = f p
-on-ok (Err e) p f = tt
+on-ok r p f = grind (arith, nat_tests)

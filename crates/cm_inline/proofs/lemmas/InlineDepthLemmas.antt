@@ -1,12 +1,8 @@
 -- How deep the inlines nest that are made of others.
-use Rattle.std.proofs.Common.{◌≡◌, ℕ, ◌+◌, true, false, List, [], ◌∷◌, refl, arith, max, ◌++◌, ap, sym, ◌∙◌}
-use Rattle.std.specs.Prelude.{if◌then◌else◌, ◌==◌, Bool}
-use Rattle.cm_tree.specs.declared.tree.Inline.{Inline}
-use Rattle.cm_tree.specs.declared.tree.Inline.TheVariants.{Text, Emph, Strong, Strike}
-use Rattle.cm_tree.specs.declared.tree.Inline.TheViews.{outs-Text, outs-Emph, outs-Strong, outs-Strike}
-use Rattle.cm_tree.specs.declared.tree.Inline.TheFolds.{fold_out-Inline}
-use Rattle.cm_tree.specs.Depth.{depth_step, depth_of, inlines_depth}
-use Rattle.cm_scan.specs.inlines.Pairing.{text_before, emphasised, Item, Finished, Linked, settled_after}
+use Rattle.cm_inline.proofs.lemmas.Words.{◌≡◌, ℕ, ◌+◌, true, false, List, [], ◌∷◌, arith, max, ◌++◌, sym, ◌∙◌, if◌then◌else◌, Inline, Text, Emph, Strong, Strike}
+use Rattle.cm_inline.proofs.lemmas.Words.{outs-Text, outs-Emph, outs-Strong, outs-Strike, fold_out-Inline, depth_step, depth_of, inlines_depth, text_before}
+use Rattle.cm_inline.proofs.lemmas.Words.{emphasised, Item, Finished, Linked, settled_after, nat_tests}
+use Rattle.std.specs.Prelude.{◌==◌, Bool}
 use Rattle.cm_inline.specs.steps.Depths.{items_depth}
 
 pub text-depth : (text : List ℕ) → depth_of (Text text) ≡ 0
@@ -21,8 +17,7 @@ emphasised-depth character count content = go (character == 126) (count == 2)
     go false false = simp (fold_out-Inline ℕ depth_step, outs-Emph)
 
 pub text-first : (text : List ℕ) (inlines : List Inline) → inlines_depth (text_before text inlines) ≡ inlines_depth inlines
-text-first [] inlines = refl
-text-first (b ∷ bs) inlines = omega (arith, text-depth (b ∷ bs))
+text-first text inlines = grind (arith, nat_tests, text-depth)
 
 none-deeper : (n : ℕ) → max 0 n ≡ n
 none-deeper n = omega arith

@@ -1,17 +1,15 @@
 -- Segments stay where only other runs are written to, and pairs are added.
-use Rattle.std.proofs.Common.{◌≡◌, ◌⊎◌, ℕ, ◌+◌, ◌<◌, ◌≤◌, List, [], ◌∷◌, ◌++◌, length, take, drop, reverse, get_or, refl, sym, ap, subst, ◌∙◌, arith, append-nil, append_assoc, length-append}
-use Rattle.std.proofs.lemmas.List.{reverse-append, take-append-le, length-reverse}
+use Rattle.cm_inline.proofs.lemmas.Words.{◌≡◌, ◌⊎◌, ℕ, ◌+◌, ◌<◌, ◌≤◌, List, [], ◌∷◌, ◌++◌, length, take, drop, reverse, get_or, refl, ap, subst, ◌∙◌, arith}
+use Rattle.cm_inline.proofs.lemmas.Words.{append-nil, append_assoc, length-append, reverse-append, take-append-le, length-reverse, rules, nat_tests}
 use Rattle.cm_inline.specs.steps.pairing.ClosingRuns.{AreUnder, State}
-use Rattle.cm_inline.specs.steps.pairing.Events.{Event, Text, Rest, Whole, Start, End}
-use Rattle.cm_inline.specs.steps.pairing.Parts.{Pair, PairedRun, Part, Numbered, Known, chain, starts, ends, ends_between, no_run, run_events, events_of, Rising, HaveNoRun, AreParts}
+use Rattle.cm_inline.specs.steps.pairing.Events.{Event, Rest}
+use Rattle.cm_inline.specs.steps.pairing.Parts.{Pair, PairedRun, Part, Numbered, Known, chain, ends, no_run, run_events, events_of, Rising, AreParts}
 use Rattle.cm_inline.specs.steps.pairing.Passes.{number_after}
-use Rattle.cm_inline.specs.steps.pairing.Readings.{StandFor}
 use Rattle.cm_inline.specs.steps.pairing.Segments.{Segment, Waiting, Made, all_parts, numbers_in, AreSegments}
 use Rattle.cm_inline.specs.steps.pairing.States.{Grows}
 use Rattle.cm_inline.proofs.lemmas.ClosingLemmas.{parts-append}
-use Rattle.cm_inline.proofs.lemmas.PartLemmas.{ends-none, chain-none, chain-stays, rising-once, AreSuch, AllOf, such-parts, under-all}
+use Rattle.cm_inline.proofs.lemmas.PartLemmas.{chain-stays, rising-once, AreSuch, AllOf, such-parts, under-all}
 use Rattle.cm_inline.proofs.lemmas.PassLemmas.{rising-behind-of}
-use Rattle.std.proofs.Common.{rules}
 
 -- the numbers of segments are such
 abbrev pub AllIn : (ℕ → Type 0) → List Segment → Type 0
@@ -40,50 +38,37 @@ run-kept pairs added k r opened to = search (rules, take-append-le, reverse-appe
 pub events-kept : (P : ℕ → Type 0) (runs now : List PairedRun) (pairs added : List Pair) (ms : List Part) → ((k : ℕ) → P k → get_or now k no_run ≡ get_or runs k no_run) → AllOf P ms → AreParts runs pairs ms → events_of now (pairs ++ added) ms ≡ events_of runs pairs ms
 unfolding events_of
 events-kept P runs now pairs added [] same a h = refl
-events-kept P runs now pairs added (Numbered k ∷ ms) same a h =
-    ap (λ r. run_events (pairs ++ added) k r ++ events_of now (pairs ++ added) ms) (same k a.0)
-    ∙ ap (λ t. t ++ events_of now (pairs ++ added) ms) (run-kept pairs added k (get_or runs k no_run) h.1 h.2)
-    ∙ ap (λ t. run_events pairs k (get_or runs k no_run) ++ t) (events-kept P runs now pairs added ms same a.1 h.3)
+events-kept P runs now pairs added (Numbered k ∷ ms) same a h = search (rules, run-kept, (events-kept P runs now pairs added ms same a.1 h.3))
 events-kept P runs now pairs added (Known fs ∷ ms) same a h = ap (λ t. fs ++ t) (events-kept P runs now pairs added ms same a h.1)
 
 pub all-kept : (P : ℕ → Type 0) (runs now : List PairedRun) (pairs added : List Pair) (ms : List Part) → length runs ≤ length now → ((k : ℕ) → P k → get_or now k no_run ≡ get_or runs k no_run) → AllOf P ms → AreParts runs pairs ms → AreParts now (pairs ++ added) ms
 all-kept P runs now pairs added [] long same a h = tt
-all-kept P runs now pairs added (Numbered k ∷ ms) long same a h =
-    let is = same k a.0 in
-    (omega (arith, h.0, long), omega (arith, h.1, ap (λ (r : PairedRun). r.opened) is, length-append pairs added), omega (arith, h.2, ap (λ (r : PairedRun). r.to) is, length-append pairs added), all-kept P runs now pairs added ms long same a.1 h.3)
+all-kept P runs now pairs added (Numbered k ∷ ms) long same a h = grind (arith, nat_tests, length-append, (all-kept P runs now pairs added ms long same a.1 h.3))
 all-kept P runs now pairs added (Known fs ∷ ms) long same a h = (h.0, all-kept P runs now pairs added ms long same a h.1)
 
 pub segments-kept : (P : ℕ → Type 0) (low : ℕ) (runs now : List PairedRun) (pairs added : List Pair) (ss : List Segment) → length runs ≤ length now → ((k : ℕ) → P k → get_or now k no_run ≡ get_or runs k no_run) → AllIn P ss → AreSegments runs pairs low ss
     → AreSegments now (pairs ++ added) low ss
 segments-kept P low runs now pairs added [] long same a h = tt
 segments-kept P low runs now pairs added (Waiting k run ∷ ss) long same a h = (h.0, omega (arith, h.1, long), same k a.0 ∙ h.2, segments-kept P (k + 1) runs now pairs added ss long same a.1 h.3)
-segments-kept P low runs now pairs added (Made parts item high ∷ ss) long same a h =
-    let m = h.0 in
-    let is = events-kept P runs now pairs added parts same a.0 m.marked in (
-      record { means = subst (λ fs. StandFor fs (item ∷ [])) (sym is) m.means; other = m.other; marked = all-kept P runs now pairs added parts long same a.0 m.marked; rising = subst (Rising low) (sym is) m.rising; under = m.under; high_is = m.high_is },
-      segments-kept P high runs now pairs added ss long same a.1 h.1,
-    )
+segments-kept P low runs now pairs added (Made parts item high ∷ ss) long same a h = search (rules, events-kept, all-kept, (segments-kept P high runs now pairs added ss long same a.1 h.1))
 
 pub segments-more : (P : ℕ → Type 0) (low : ℕ) (runs now : List PairedRun) (pairs : List Pair) (ss : List Segment) → length runs ≤ length now → ((k : ℕ) → P k → get_or now k no_run ≡ get_or runs k no_run) → AllIn P ss → AreSegments runs pairs low ss → AreSegments now pairs low ss
 segments-more P low runs now pairs ss long same a h = subst (λ ps. AreSegments now ps low ss) (append-nil pairs) (segments-kept P low runs now pairs [] ss long same a h)
 
 pub segments-grow : (P : ℕ → Type 0) (low high from : ℕ) (old new : State) (ss : List Segment) → Grows low high old new → ((k : ℕ) → P k → (k < low) ⊎ (high ≤ k)) → AllIn P ss → AreSegments old.runs old.pairs from ss → AreSegments new.runs new.pairs from ss
-segments-grow P low high from old new ss g out a h =
-    subst (λ ps. AreSegments new.runs ps from ss) (sym g.pairs) (segments-kept P from old.runs new.runs old.pairs g.added ss (omega (arith, g.long)) (λ k p. g.others k (out k p)) a h)
+segments-grow P low high from old new ss g out a h = search (rules, segments-kept)
 
 -- and so do their events
 
 pub segments-parts : (low : ℕ) (runs : List PairedRun) (pairs : List Pair) (ss : List Segment) → AreSegments runs pairs low ss → AreParts runs pairs (all_parts ss)
 unfolding all_parts
 segments-parts low runs pairs [] h = tt
-segments-parts low runs pairs (Waiting k run ∷ ss) h =
-    (h.1, omega (arith, ap (λ (r : PairedRun). r.opened) h.2), omega (arith, ap (λ (r : PairedRun). r.to) h.2), segments-parts (k + 1) runs pairs ss h.3)
+segments-parts low runs pairs (Waiting k run ∷ ss) h = search (rules, (segments-parts (k + 1) runs pairs ss h.3))
 segments-parts low runs pairs (Made parts item high ∷ ss) h = parts-append runs pairs parts (all_parts ss) h.0.marked (segments-parts high runs pairs ss h.1)
 
 pub segments-same : (P : ℕ → Type 0) (low high from : ℕ) (old new : State) (ss : List Segment) → Grows low high old new → ((k : ℕ) → P k → (k < low) ⊎ (high ≤ k)) → AllIn P ss → AreSegments old.runs old.pairs from ss
     → events_of new.runs new.pairs (all_parts ss) ≡ events_of old.runs old.pairs (all_parts ss)
-segments-same P low high from old new ss g out a h =
-    ap (λ ps. events_of new.runs ps (all_parts ss)) g.pairs ∙ events-kept P old.runs new.runs old.pairs g.added (all_parts ss) (λ k p. g.others k (out k p)) (all-parts P ss a) (segments-parts from old.runs old.pairs ss h)
+segments-same P low high from old new ss g out a h = search (rules, events-kept, all-parts, segments-parts)
 
 -- the numbers of segments are from the one on that they begin with, and below the one behind them
 

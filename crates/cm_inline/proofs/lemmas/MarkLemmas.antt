@@ -1,36 +1,26 @@
 -- What one mark writes, among tags and in an alternative text.
-use Rattle.std.proofs.Common.{◌≡◌, ℕ, zero, suc, ◌+◌, ◌-◌, ◌<◌, ◌==◌, Bool, true, false, cond, List, [], ◌∷◌, ◌++◌, length, take, drop, get_or, map, reverse, codes, refl, sym, ap, subst, ◌∙◌, arith}
-use Rattle.std.specs.Prelude.{replicate, encode_utf8, if◌then◌else◌}
-use Rattle.std.specs.List.{slice_range}
-use Rattle.std.proofs.lemmas.Bool.{cond-false}
-use Rattle.std.proofs.lemmas.List.{append-nil, take-map, get_or-take, get_or-drop, get_or_read, get_or-map, drop-map}
-use Rattle.cm_tree.specs.Definitions.{Targets}
-use Rattle.cm_tree.specs.declared.tree.Inline.TheFolds.{fold_out-Inline}
+use Rattle.cm_inline.proofs.lemmas.Words.{◌≡◌, ℕ, zero, suc, ◌+◌, ◌-◌, ◌<◌, Bool, true, false, cond, List, [], ◌∷◌, ◌++◌, take, drop, get_or, codes, refl, sym, ap}
+use Rattle.cm_inline.proofs.lemmas.Words.{subst, ◌∙◌, arith, encode_utf8, if◌then◌else◌, slice_range, cond-false, get_or-take, get_or_read, get_or-map, Targets}
+use Rattle.cm_inline.proofs.lemmas.Words.{fold_out-Inline, escape, Rendered, inline_step, inlines_html, rendered, one_line, Link, Reader, Kind, Mark, Emphasis, rules}
+use Rattle.cm_inline.proofs.lemmas.Words.{nat_tests}
+use Rattle.std.specs.Prelude.{replicate}
+use Rattle.std.proofs.lemmas.List.{append-nil, take-map, get_or-drop, drop-map}
 use Rattle.cm_tree.specs.declared.tree.Inline.TheVariants as inlines
-use Rattle.cm_tree.specs.declared.tree.Inline.TheVariants.{outs-Text, outs-Code, outs-Html, outs-Link, outs-Soft, outs-Hard}
-use Rattle.cm_html.specs.Escape.{escape}
-use Rattle.cm_html.specs.Html.{Rendered, inline_step, inlines_html, rendered, code_span_html, link_html}
-use Rattle.cm_scan.specs.spans.CodeSpans.{one_line}
-use Rattle.cm_inline.specs.declared.brackets.Link.{Link}
-use Rattle.cm_inline.specs.declared.brackets.Reader.{Reader}
-use Rattle.cm_inline.specs.declared.marks.Kind.{Kind}
+use Rattle.cm_tree.specs.declared.tree.Inline.TheVariants.{outs-Text, outs-Code, outs-Html, outs-Link, outs-Hard}
+use Rattle.cm_html.specs.Html.{code_span_html, link_html}
 use Rattle.cm_inline.specs.declared.marks.Kind.TheVariants as kinds
-use Rattle.cm_inline.specs.declared.marks.Mark.{Mark}
-use Rattle.cm_inline.specs.declared.runs.Emphasis.{Emphasis}
-use Rattle.cm_inline.specs.declared.runs.Emphasis.TheVariants.{Emph, Strong, Strike}
 use Rattle.cm_inline.specs.declared.runs.Run as held
 use Rattle.cm_inline.specs.declared.runs.Pair as made
-use Rattle.cm_inline.specs.steps.pairing.Events.{Rest, LinkTag, Start}
-use Rattle.cm_inline.specs.steps.pairing.Parts.{Pair, Numbered, chain, starts, ends, ends_between, run_events, part_events, AreParts}
+use Rattle.cm_inline.specs.steps.pairing.Events.{LinkTag, Start}
+use Rattle.cm_inline.specs.steps.pairing.Parts.{Pair, chain, ends, run_events, part_events}
 use Rattle.cm_inline.specs.steps.pairing.Parts as parts
 use Rattle.cm_inline.specs.steps.pairing.Readings.{start_html, end_html, Tags, Alternative, is_number, mode_of, page, write_all}
-use Rattle.cm_inline.specs.steps.Marks.{target_in, link_tag, no_link, part_of_kind, is_escaped, IsOfKind}
-use Rattle.cm_inline.specs.steps.Runs.{byte_of, tag_in, pair_in, pairs_in, paired_run, runs_in, run_of}
+use Rattle.cm_inline.specs.steps.Marks.{link_tag, part_of_kind, is_escaped, IsOfKind}
+use Rattle.cm_inline.specs.steps.Runs.{byte_of, tag_in, pairs_in, paired_run, runs_in}
 use Rattle.cm_inline.specs.steps.Standalone.{autolink, autolink_html}
 use Rattle.cm_inline.specs.steps.Writing.{Adds, mark_events, mode_after, is_end_of, IsNumbered, IsLinked, IsMarkIn}
 use Rattle.cm_inline.proofs.lemmas.HtmlLemmas.{run-html, text-html}
 use Rattle.cm_inline.proofs.lemmas.WriteLemmas.{write-append, soft-html, soft-plain}
-use Rattle.std.proofs.Common.{rules}
 
 -- what is written of a mark among tags
 abbrev pub Wrote : List ℕ → Targets → Reader → Mark → (html new : List ℕ) → Type 0
@@ -132,8 +122,7 @@ unfolding write_all
 tags-hard source targets reader mark html new is e = of-kind source targets reader mark html new kinds.Hard is (tags html new (rendered inlines.Hard).html (e ∙ ap (λ t. html ++ t) (sym hard-html)))
 
 mode-link : (number : ℕ) (image : Bool) (dest title : List ℕ) → mode_of (LinkTag number image dest title) ≡ cond image (Alternative number) Tags
-mode-link number true dest title = refl
-mode-link number false dest title = refl
+mode-link number image dest title = grind (arith, nat_tests)
 
 pub tags-start : (source : List ℕ) (targets : Targets) (reader : Reader) (mark : Mark) (html new : List ℕ) (number : ℕ) (link : Link) → mark.kind ≡ kinds.Start number → IsMarkIn source targets reader mark → link ≡ get_or reader.links.items number link
     → new ≡ html ++ start_html (link_tag source targets number link) → Wrote source targets reader mark html new
@@ -236,25 +225,17 @@ alt-end source targets reader mark link html number is other = search rules
 
 -- of a run, what is left
 emphasis-end : (link : ℕ) (emphasis : Emphasis) → is_number link (tag_in emphasis) ≡ false
-emphasis-end link Emph = refl
-emphasis-end link _ = refl
+emphasis-end link emphasis = grind (arith, nat_tests)
 
 ends-alternative : (link : ℕ) (html : List ℕ) (ps : List made.Pair) → write_all (page html (Alternative link)) (ends (pairs_in ps)) ≡ page html (Alternative link)
 unfolding write_all
 ends-alternative link html [] = refl
-ends-alternative link html (p ∷ ps) =
-    ap (λ q. write_all q (ends (pairs_in ps))) (cond-false (is_number link (tag_in p.emphasis)) (page (html ++ end_html (tag_in p.emphasis)) Tags) (page html (Alternative link)) (emphasis-end link p.emphasis))
-    ∙ ends-alternative link html ps
+ends-alternative link html (p ∷ ps) = search (rules, cond-false, emphasis-end, (ends-alternative link html ps))
 
 chain-alternative : (link : ℕ) (html : List ℕ) (ps : List Pair) (n : ℕ) → write_all (page html (Alternative link)) (chain ps n) ≡ page html (Alternative link)
 unfolding write_all chain
 chain-alternative link html [] n = refl
-chain-alternative link html (p ∷ ps) n = go (n == suc (length ps)) (chain-alternative link html ps p.before) (chain-alternative link html ps n)
-  where
-    go : (b : Bool) → write_all (page html (Alternative link)) (chain ps p.before) ≡ page html (Alternative link) → write_all (page html (Alternative link)) (chain ps n) ≡ page html (Alternative link)
-        → write_all (page html (Alternative link)) (cond b (Start p.tag ∷ chain ps p.before) (chain ps n)) ≡ page html (Alternative link)
-    go true h g = h
-    go false h g = g
+chain-alternative link html (p ∷ ps) n = search (rules, (chain-alternative link html ps p.before), (chain-alternative link html ps n))
 
 run-alternative : (link : ℕ) (html : List ℕ) (ps : List made.Pair) (number : ℕ) (r : held.Run) → write_all (page html (Alternative link)) (run_events (pairs_in ps) number (paired_run r)) ≡ page (html ++ replicate r.run.left (byte_of r.run.marker)) (Alternative link)
 unfolding write_all

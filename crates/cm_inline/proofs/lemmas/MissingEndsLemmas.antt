@@ -1,18 +1,16 @@
 -- What is known not to follow in a source.
-use Rattle.std.proofs.Common.{◌≡◌, ℕ, ◌+◌, ◌-◌, ◌≤◌, Bool, true, false, List, [], ◌++◌, length, take, drop, nat_eq, Option, Some, None, IfSome, codes, refl, sym, ap, ◌∙◌, arith, subst, inl, inr, ◌⊎◌}
+use Rattle.cm_inline.proofs.lemmas.Words.{◌≡◌, ℕ, ◌+◌, ◌-◌, ◌≤◌, Bool, true, false, List, [], ◌++◌, length, take, drop, Option, Some, None, IfSome, codes, refl, sym}
+use Rattle.cm_inline.proofs.lemmas.Words.{ap, ◌∙◌, arith, nat_tests, drop_all, is_byte, Rules, run_length, after_run, raw_html, up_to_run, spanned_as_written, Comment}
+use Rattle.cm_inline.proofs.lemmas.Words.{Declaration, MissingEnds, rules}
+use Rattle.std.proofs.Common.{nat_eq}
 use Rattle.std.specs.List.{starts_with}
 use Rattle.std.specs.Bool.{then_some}
 use Rattle.std.specs.Ordering.{nat_cmp}
 use Rattle.std.specs.Option.{option_map_or}
 use Rattle.std.specs.BTreeMap.{BTreeMap, is_at, Updates}
 use Rattle.std.proofs.lemmas.Bool.{cases_eq}
-use Rattle.std.proofs.lemmas.Bool.Decides.{nat_tests}
-use Rattle.std.proofs.lemmas.List.{drop_all}
-use Rattle.memchr.specs.Find.{IsFirstByte, is_byte}
-use Rattle.cm_text.specs.Rules.{Rules}
-use Rattle.cm_scan.specs.Words.{run_length, after_run}
-use Rattle.cm_scan.specs.spans.RawHtml.{behind_word, raw_html}
-use Rattle.cm_scan.specs.spans.CodeSpans.{up_to_run, spanned_as_written}
+use Rattle.memchr.specs.Find.{IsFirstByte}
+use Rattle.cm_scan.specs.spans.RawHtml.{behind_word}
 use Rattle.cm_scan.specs.laws.SpanLaws.{NeedsEnd}
 use Rattle.cm_scan.proofs.lemmas.blocks.WordsInAnyCase.{slice_from, starts_at}
 use Rattle.cm_scan.proofs.lemmas.texts.FoundWords.{word-there}
@@ -20,10 +18,8 @@ use Rattle.cm_scan.proofs.lemmas.spans.RawHtmlGoesOn.{word-front}
 use Rattle.cm_scan.proofs.lemmas.spans.BacktickStrings.{Found, found-at, nowhere, no-run-here, none-before, none-behind}
 use Rattle.cm_scan.proofs.lemmas.spans.RawHtmlNeedsItsEnd.{comment-needs, instruction-needs, section-needs, any-needs}
 use Rattle.cm_inline.specs.declared.missing_ends.Form.{Form}
-use Rattle.cm_inline.specs.declared.missing_ends.Form.TheVariants.{Comment, Instruction, CharacterData, Declaration}
-use Rattle.cm_inline.specs.declared.missing_ends.MissingEnds.{MissingEnds}
+use Rattle.cm_inline.specs.declared.missing_ends.Form.TheVariants.{Instruction, CharacterData}
 use Rattle.cm_inline.specs.steps.Missing.{start_of, end_of, Missing, missing_from, after_last, Knows, NoneFrom}
-use Rattle.std.proofs.Common.{rules}
 
 -- no word is at the end of a source
 past-nothing : (word : List ℕ) → behind_word word [] ≡ None
@@ -48,8 +44,7 @@ begins-so word text h =
 -- a source that starts with one at a place, by a test of its bytes from there
 pub word-begins : (word bytes source : List ℕ) (at : ℕ) (told : Bool) → bytes ≡ source → told ≡ starts_with nat_eq (take (length bytes - at) (drop at bytes)) word → told ≡ true
     → (rest : List ℕ) × (drop at source ≡ word ++ rest)
-word-begins word bytes source at told same told_is there =
-    begins-so word (drop at source) (ap (λ t. starts_with nat_eq (drop at t) word) (sym same) ∙ ap (λ t. starts_with nat_eq t word) (sym (slice_from at bytes)) ∙ sym told_is ∙ there)
+word-begins word bytes source at told same told_is there = search (rules, begins-so, nat_eq, slice_from)
 
 -- a text starts with the first word of a form
 abbrev Begins : List ℕ → Form → Type 0
@@ -81,8 +76,7 @@ next-tick bytes source at plain same within h = found-at source (take (length by
 
 pub no-tick : (count : ℕ) (bytes source : List ℕ) (at : ℕ) → bytes ≡ source → IsFirstByte (is_byte 96) (take (length bytes - at) (drop at bytes)) None
     → up_to_run count false (drop at source) ≡ None
-no-tick count bytes source at same h =
-    no-run-here count (drop at source) (nowhere source (take (length bytes - at) (drop at bytes)) at (slice_from at bytes ∙ ap (drop at) same) h)
+no-tick count bytes source at same h = search (rules, no-run-here, nowhere, slice_from)
 
 -- the last backtick string of each length
 

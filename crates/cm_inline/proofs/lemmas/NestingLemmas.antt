@@ -1,19 +1,10 @@
 -- How deep events nest, one after another.
-use Rattle.std.proofs.Common.{◌≡◌, ℕ, ◌+◌, ◌-◌, ◌^◌, ◌<◌, ◌≤◌, ◌==◌, Bool, true, false, cond, max, List, [], ◌∷◌, ◌++◌, length, take, drop, get_or, codes, Some, None, refl, sym, ap, subst, ◌∙◌, arith}
-use Rattle.std.specs.Prelude.{if◌then◌else◌}
-use Rattle.std.specs.List.{slice_range}
-use Rattle.std.proofs.lemmas.Bool.{eqb-false}
-use Rattle.std.proofs.lemmas.List.{append-nil, drop_more, drop_all, length-take, length-drop, get_or_read}
-use Rattle.cm_tree.specs.Definitions.{Targets}
-use Rattle.cm_tree.specs.Depth.{depth_step, depth_of}
-use Rattle.cm_tree.specs.declared.tree.Inline.TheFolds.{fold_out-Inline}
+use Rattle.cm_inline.proofs.lemmas.Words.{◌≡◌, ℕ, ◌+◌, ◌-◌, ◌^◌, ◌<◌, ◌≤◌, ◌==◌, Bool, true, false, cond, max, List, [], ◌∷◌, ◌++◌, length, drop, get_or, Some, None}
+use Rattle.cm_inline.proofs.lemmas.Words.{refl, sym, ap, subst, ◌∙◌, arith, slice_range, eqb-false, drop_more, drop_all, length-take, get_or_read, Targets, depth_of}
+use Rattle.cm_inline.proofs.lemmas.Words.{Reader, Kind, Mark, rules}
+use Rattle.std.proofs.lemmas.List.{append-nil, length-drop}
 use Rattle.cm_tree.specs.declared.tree.Inline.TheVariants as inlines
-use Rattle.cm_tree.specs.declared.tree.Inline.TheVariants.{outs-Text, outs-Code, outs-Html, outs-Link, outs-Soft, outs-Hard}
-use Rattle.cm_scan.specs.spans.CodeSpans.{one_line}
-use Rattle.cm_inline.specs.declared.brackets.Reader.{Reader}
-use Rattle.cm_inline.specs.declared.marks.Kind.{Kind}
 use Rattle.cm_inline.specs.declared.marks.Kind.TheVariants as kinds
-use Rattle.cm_inline.specs.declared.marks.Mark.{Mark}
 use Rattle.cm_inline.specs.declared.nesting.Level.{Level}
 use Rattle.cm_inline.specs.declared.runs.Run as held
 use Rattle.cm_inline.specs.declared.runs.Pair as made
@@ -23,14 +14,12 @@ use Rattle.cm_inline.specs.steps.pairing.Readings.{deepest}
 use Rattle.cm_inline.specs.steps.pairing.States.{AreChained, no_run, run_at}
 use Rattle.cm_inline.specs.steps.Marks.{text_event, texts, part_of_kind, AreLaid}
 use Rattle.cm_inline.specs.steps.Nesting.{rise, rise_all, CanRiseAll, NestsTo, NestsFrom}
-use Rattle.cm_inline.specs.steps.Runs.{run_of, runs_in, pairs_in, paired_run}
-use Rattle.cm_inline.specs.steps.Standalone.{autolink}
+use Rattle.cm_inline.specs.steps.Runs.{runs_in, pairs_in, paired_run}
 use Rattle.cm_inline.specs.steps.Writing.{no_mark, mark_numbered, mark_events, events_from, IsMarkIn}
 use Rattle.cm_inline.proofs.lemmas.LaidLemmas.{events-next, events-last}
 use Rattle.cm_inline.proofs.lemmas.RunLemmas.{run-known}
 use Rattle.cm_inline.proofs.lemmas.TagLemmas.{length-pairs}
 use Rattle.cm_inline.proofs.lemmas.DepthLemmas.{code-depth, html-depth, soft-depth, hard-depth, autolink-depth}
-use Rattle.std.proofs.Common.{rules}
 
 pub rise-append : (l : Level) (fs gs : List Event) → rise_all l (fs ++ gs) ≡ rise_all (rise_all l fs) gs
 unfolding rise_all
@@ -64,10 +53,7 @@ level now most = record { now = now; most = most }
 ends-fall : (bound : ℕ) (l : Level) (ps : List Pair) → CanRiseAll bound l (ends ps) → (length ps ≤ l.now) × (rise_all l (ends ps) ≡ level (l.now - length ps) l.most)
 unfolding rise_all
 ends-fall bound l [] h = (omega arith, ap (λ n. level n l.most) (omega arith))
-ends-fall bound l (p ∷ ps) h =
-    let rest = ends-fall bound (level (l.now - 1) l.most) ps h.1 in
-    let some : 1 ≤ l.now = h.0 in
-    (omega (arith, rest.0, some), rest.1 ∙ ap (λ n. level n l.most) (omega (arith, rest.0, some)))
+ends-fall bound l (p ∷ ps) h = search (rules, (ends-fall bound (level (l.now - 1) l.most) ps h.1))
 
 -- what was made of a run
 pub record RunRises (bound : ℕ) (l : Level) (pairs : List Pair) (number : ℕ) (r : held.Run) : Type 0 where
@@ -128,8 +114,7 @@ flat-level source targets reader mark l high no_autolink no_run no_start no_end 
 
 most-below : (d m total : ℕ) (fs : List Event) → deepest d m fs ≡ Some total → m ≤ total
 unfolding deepest
-most-below d m total [] h =
-    (elim (d == 0) as (λ b. cond b (Some m) None ≡ Some total → m ≤ total) [ true ↦ λ e. let same : m ≡ total = cc e in omega (arith, same) | false ↦ λ e. absurd (cc e) ]) h
+most-below d m total [] h = search rules
 most-below d m total (Text t ∷ fs) h = most-below d m total fs h
 most-below d m total (Rest n r ∷ fs) h = most-below d m total fs h
 most-below d m total (Whole i ∷ fs) h = omega (arith, most-below d (max m (d + depth_of i)) total fs h)
@@ -171,8 +156,7 @@ rises bound total l (End tag ∷ fs) more high low h = go (l.now == 0) refl h (�
 -- text doesn't nest
 byte-flat : (d m b : ℕ) (more : List Event) → d ≤ m → deepest d m (text_event b ∷ more) ≡ deepest d m more
 unfolding deepest
-byte-flat d m b more high =
-    elim (b == 10) as (λ c. deepest d m (cond c (Whole inlines.Soft) (Text (b ∷ [])) ∷ more) ≡ deepest d m more) [ true ↦ ap (λ n. deepest d n more) (omega (arith, high, soft-depth)) | false ↦ refl ]
+byte-flat d m b more high = search (rules, soft-depth)
 
 texts-flat : (runs : List PairedRun) (pairs : List Pair) (d m : ℕ) (text : List ℕ) (more : List Event) → d ≤ m → deepest d m (events_of runs pairs (texts text) ++ more) ≡ deepest d m more
 unfolding events_of
@@ -226,5 +210,4 @@ nests-last lines source targets reader depth at l h n =
 
 -- all levels fit
 pub nests-fit : (lines : Bool) (source : List ℕ) (targets : Targets) (reader : Reader) (depth : ℕ) → NestsTo lines source targets reader depth → depth < 2 ^ 64
-nests-fit lines source targets reader depth n =
-    omega (arith, n.near, n.few, reader.runs.pairs.ok.0, reader.runs.pairs.ok.1, reader.runs.pairs.small, reader.links.ok.0, reader.links.ok.1, reader.links.small)
+nests-fit lines source targets reader depth n = search rules

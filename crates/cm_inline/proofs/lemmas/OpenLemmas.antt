@@ -1,19 +1,10 @@
 -- Open brackets among segments, with more behind them.
-use Rattle.std.proofs.Common.{◌≡◌, ℕ, ◌<◌, ◌≤◌, Bool, true, false, ◌||◌, List, [], ◌∷◌, ◌++◌, length, refl, sym, ap, subst, ◌∙◌, arith, append_assoc, length-append}
-use Rattle.std.specs.Prelude.{nat_lt}
-use Rattle.std.proofs.lemmas.Bool.Decides.{nat_tests}
-use Rattle.cm_scan.specs.inlines.Pairing.{Item}
-use Rattle.cm_scan.specs.inlines.Brackets.{is_linked, holds_link}
-use Rattle.cm_inline.specs.declared.brackets.Bracket.{Bracket}
-use Rattle.cm_inline.specs.declared.brackets.Link.{Link}
-use Rattle.cm_inline.specs.declared.marks.Mark.{Mark}
-use Rattle.cm_inline.specs.declared.marks.Kind.TheVariants.{Plain}
-use Rattle.cm_inline.specs.declared.runs.Run.{Run as HeldRun}
+use Rattle.cm_inline.proofs.lemmas.Words.{◌≡◌, ℕ, ◌<◌, ◌≤◌, Bool, true, false, ◌||◌, List, [], ◌∷◌, ◌++◌, length, refl, sym, ap, subst, ◌∙◌, arith, append_assoc}
+use Rattle.cm_inline.proofs.lemmas.Words.{length-append, nat_lt, nat_tests, Item, is_linked, holds_link, Bracket, Link, Mark, Plain, HeldRun, rules}
 use Rattle.cm_inline.specs.steps.pairing.Segments.{Segment, Waiting, Made, items_in, parts_in, all_parts, numbers_in}
 use Rattle.cm_inline.specs.steps.Brackets.{MarkedLeaf, is_opener, has_opener, AreClosed, IsOpener, opened, AreOpen}
-use Rattle.cm_inline.specs.steps.Marks.{parts_between, IsUnmarked}
+use Rattle.cm_inline.specs.steps.Marks.{IsUnmarked}
 use Rattle.cm_inline.proofs.lemmas.JoinLemmas.{Later, laid-join, parts-join, parts-none, laid-later, parts-later}
-use Rattle.std.proofs.Common.{rules}
 
 -- segments one after another
 pub items-append : (xs ys : List Segment) → items_in (xs ++ ys) ≡ items_in xs ++ items_in ys
@@ -34,8 +25,7 @@ numbers-append (Waiting number run ∷ xs) ys = ap (λ t. number ∷ t) (numbers
 numbers-append (Made parts item high ∷ xs) ys = numbers-append xs ys
 
 or-assoc : (u v w : Bool) → (u || v) || w ≡ u || (v || w)
-or-assoc true v w = refl
-or-assoc false v w = refl
+or-assoc u v w = grind (arith, nat_tests)
 
 pub holds-append : (xs ys : List Item) → holds_link (xs ++ ys) ≡ holds_link xs || holds_link ys
 unfolding holds_link
@@ -88,29 +78,13 @@ closed-later leaf runs more links_end from to xs ms later h = search (rules, par
 pub open-later : (leaf : MarkedLeaf) (runs : List HeldRun) (more : List Link) (bs : List Bracket) (xs : List Segment) (ms : List Mark) (to : ℕ) (linked : Bool) → Later leaf.runs runs → AreOpen leaf bs xs ms to linked
     → AreOpen (later_leaf leaf runs more leaf.links_end) bs xs ms to linked
 open-later leaf runs more [] xs ms to linked later h = closed-later leaf runs more leaf.links_end 0 to xs ms later h
-open-later leaf runs more (b ∷ bs) xs ms to linked later h = record {
-  front = h.front;
-  high = h.high;
-  inside = h.inside;
-  early = h.early;
-  at = h.at;
-  late = h.late;
-  whole = h.whole;
-  marks_are = h.marks_are;
-  closed = closed-later leaf runs more leaf.links_end b.end to h.inside h.late later h.closed;
-  bracket = h.bracket;
-  number = h.number;
-  waiting = h.waiting;
-  link = h.link;
-  below = open-later leaf runs more bs h.front h.early h.at (holds_link (items_in h.inside) || linked) later h.below;
-}
+open-later leaf runs more (b ∷ bs) xs ms to linked later h = search (rules, closed-later, (open-later leaf runs more bs h.front h.early h.at (holds_link (items_in h.inside) || linked) later h.below))
 
 below-end : (n end : ℕ) → n < end → nat_lt n end ≡ true
 below-end n end h = grind (arith, nat_tests, h)
 
 or-true : (v : Bool) → v || true ≡ true
-or-true true = refl
-or-true false = refl
+or-true v = grind (arith, nat_tests)
 
 -- A link ends behind them all.
 pub open-linked : (leaf : MarkedLeaf) (runs : List HeldRun) (more : List Link) (links_end : ℕ) (bs : List Bracket) (xs : List Segment) (ms : List Mark) (to : ℕ) (linked : Bool) → Later leaf.runs runs → length ms ≤ links_end → AreOpen leaf bs xs ms to linked
@@ -119,23 +93,8 @@ open-linked leaf runs more links_end [] xs ms to linked later high h = closed-la
 open-linked leaf runs more links_end (b ∷ bs) xs ms to linked later high h =
     let m : Mark = record { at = h.at; end = b.end; kind = Plain } in
     let low : b.mark < links_end = omega (arith, h.number, ap length h.marks_are, length-append h.early (m ∷ h.late), high) in
-    record {
-      front = h.front;
-      high = h.high;
-      inside = h.inside;
-      early = h.early;
-      at = h.at;
-      late = h.late;
-      whole = h.whole;
-      marks_are = h.marks_are;
-      closed = closed-later leaf runs more links_end b.end to h.inside h.late later h.closed;
-      bracket = h.bracket;
-      number = h.number;
-      waiting = h.waiting;
-      link = below-end b.mark links_end low ∙ sym (or-true (holds_link (items_in h.inside)));
-      below = subst (AreOpen (later_leaf leaf runs more links_end) bs h.front h.early h.at) (sym (or-true (holds_link (items_in h.inside))))
-          (open-linked leaf runs more links_end bs h.front h.early h.at (holds_link (items_in h.inside) || linked) later (omega (arith, h.number, low)) h.below);
-    }
+    search (rules, (closed-later leaf runs more links_end b.end to h.inside h.late later h.closed), (below-end b.mark links_end low ∙ sym (or-true (holds_link (items_in h.inside)))),
+        (subst (AreOpen (later_leaf leaf runs more links_end) bs h.front h.early h.at) (sym (or-true (holds_link (items_in h.inside)))) (open-linked leaf runs more links_end bs h.front h.early h.at (holds_link (items_in h.inside) || linked) later (omega (arith, h.number, low)) h.below)))
 
 not-below : (n end : ℕ) → end ≤ n → nat_lt n end ≡ false
 not-below n end h = grind (arith, nat_tests, h)

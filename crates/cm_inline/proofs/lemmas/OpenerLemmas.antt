@@ -1,15 +1,16 @@
 -- The stack of openers as a list of entries, the last first.
-use Rattle.std.proofs.Common.{◌≡◌, ℕ, zero, suc, ◌+◌, ◌-◌, ◌<◌, ◌≤◌, true, false, cond, ◌==◌, ◌&&◌, nat_lt, List, [], ◌∷◌, ◌++◌, length, map, reverse, take, get_or, set, Some, None, sym, ap, ◌∙◌, arith}
-use Rattle.std.proofs.lemmas.List.{reverse-append, map-append, take_more, take_more_set, length-map, length-reverse, length-set, take_all, get_or_read}
-use Rattle.std.proofs.lemmas.Bool.{cond-true, cond-false, lt-ltb, le-ltb, ne_eqb}
-use Rattle.cm_scan.specs.inlines.Delimiters.{Run, delimiters_match}
+use Rattle.cm_inline.proofs.lemmas.Words.{◌≡◌, ℕ, zero, suc, ◌+◌, ◌-◌, ◌<◌, ◌≤◌, true, false, cond, ◌==◌, ◌&&◌, List, [], ◌∷◌, ◌++◌, length, map, reverse, take}
+use Rattle.cm_inline.proofs.lemmas.Words.{get_or, set, Some, None, sym, ap, ◌∙◌, arith, reverse-append, map-append, length-map, length-reverse, length-set, take_all}
+use Rattle.cm_inline.proofs.lemmas.Words.{get_or_read, cond-true, cond-false, ne_eqb, Run, delimiters_match, rules}
+use Rattle.std.proofs.Common.{nat_lt}
+use Rattle.std.proofs.lemmas.List.{take_more, take_more_set}
+use Rattle.std.proofs.lemmas.Bool.{lt-ltb, le-ltb}
 use Rattle.cm_inline.specs.declared.openers.Opener.{Opener}
 use Rattle.cm_inline.specs.steps.Entries.{answers}
 use Rattle.cm_inline.specs.steps.Openers.{no_opener, entries_in, leaving, AreOpeners}
 use Rattle.cm_inline.specs.steps.Runs.{run_of, entry_of}
 use Rattle.cm_inline.specs.steps.Searching.{find_opener, looks_for, from_found}
 use Rattle.cm_inline.proofs.lemmas.StepLemmas.{step-low, step-finds, step-passes}
-use Rattle.std.proofs.Common.{rules}
 
 pub entries-push : (stack : List Opener) (opener : Opener) → entries_in (stack ++ opener ∷ []) ≡ entry_of opener ∷ entries_in stack
 entries-push stack opener = ap reverse (map-append entry_of stack (opener ∷ [])) ∙ reverse-append (map entry_of stack) (entry_of opener ∷ [])

@@ -1,12 +1,8 @@
 -- What the marks of a source come to where their events stand for items.
-use Rattle.std.proofs.Common.{◌≡◌, ℕ, ◌+◌, ◌≤◌, Bool, max, List, [], length, Some, sym, ap, ◌∙◌, arith, append-nil}
-use Rattle.cm_tree.specs.Definitions.{Targets}
-use Rattle.cm_tree.specs.Depth.{inlines_depth}
-use Rattle.cm_html.specs.Html.{inlines_html}
-use Rattle.cm_scan.specs.inlines.Pairing.{Item, settled}
-use Rattle.cm_inline.specs.declared.brackets.Reader.{Reader}
+use Rattle.cm_inline.proofs.lemmas.Words.{◌≡◌, ℕ, ◌+◌, ◌≤◌, Bool, max, List, [], length, Some, sym, ap, ◌∙◌, arith, append-nil, Targets, inlines_depth, inlines_html}
+use Rattle.cm_inline.proofs.lemmas.Words.{Item, settled, Reader, rules}
 use Rattle.cm_inline.specs.steps.pairing.Events.{Event, inlines_of}
-use Rattle.cm_inline.specs.steps.pairing.Readings.{Mode, Tags, Page, page, write_all, deepest, starts_in, StandFor}
+use Rattle.cm_inline.specs.steps.pairing.Readings.{Tags, page, write_all, deepest, starts_in, StandFor}
 use Rattle.cm_inline.specs.steps.pairing.States.{AreChained}
 use Rattle.cm_inline.specs.steps.Depths.{items_depth}
 use Rattle.cm_inline.specs.steps.Marks.{events_in, AreLaid}
@@ -14,7 +10,6 @@ use Rattle.cm_inline.specs.steps.Nesting.{NestsTo}
 use Rattle.cm_inline.specs.steps.Runs.{runs_in, pairs_in}
 use Rattle.cm_inline.proofs.lemmas.EventLemmas.{means-settles}
 use Rattle.cm_inline.proofs.lemmas.ReadingLemmas.{nests-all, writes-inlines}
-use Rattle.std.proofs.Common.{rules}
 
 -- the HTML, with no alternative text left open
 pub stands-html : (fs : List Event) (items : List Item) → StandFor fs items → (write_all (page [] Tags) fs).html ≡ inlines_html (settled items)

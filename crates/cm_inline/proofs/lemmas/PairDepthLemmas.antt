@@ -1,16 +1,13 @@
 -- How deep items nest that a pass makes pairs of: none becomes less deep, and a pair is deeper than what it wraps.
-use Rattle.std.proofs.Common.{◌≡◌, ℕ, zero, suc, ◌+◌, ◌-◌, ◌<◌, ◌≤◌, Bool, true, false, cond, nat_le, max, List, [], ◌∷◌, ◌++◌, reverse, Option, Some, None, refl, sym, ap, ◌∙◌, arith, append-nil}
-use Rattle.std.proofs.lemmas.List.{reverse-append}
-use Rattle.cm_tree.specs.Depth.{depth_of, inlines_depth}
-use Rattle.cm_scan.specs.inlines.Delimiters.{Run}
-use Rattle.cm_scan.specs.inlines.Pairing.{Item, Characters, Finished, Linked, Delimiters, Opener, Opened, nearest_opener, without, used, emphasised, settled, settled_after}
-use Rattle.cm_scan.specs.inlines.OnePass.{up_to_pair, closer_left, closed_within, passed, pass_from}
-use Rattle.cm_scan.proofs.lemmas.inlines.PairingLemmas.{nearest-splits, together}
-use Rattle.cm_scan.proofs.lemmas.inlines.OnePassLemmas.{closed-none, closed-gone, closed-more, closed_by-gone, closed_by-more}
+use Rattle.cm_inline.proofs.lemmas.Words.{◌≡◌, ℕ, zero, suc, ◌-◌, ◌<◌, ◌≤◌, Bool, true, false, cond, nat_le, List, [], ◌∷◌, reverse, Option, Some, None, refl, sym, ap}
+use Rattle.cm_inline.proofs.lemmas.Words.{◌∙◌, arith, append-nil, reverse-append, inlines_depth, Run, Item, Delimiters, Opened, nearest_opener, without, used, settled}
+use Rattle.cm_inline.proofs.lemmas.Words.{up_to_pair, passed, pass_from, nearest-splits, closed_by-gone, closed_by-more, rules, nat_tests}
+use Rattle.cm_scan.specs.inlines.OnePass.{closer_left, closed_within}
+use Rattle.cm_scan.proofs.lemmas.inlines.PairingLemmas.{together}
+use Rattle.cm_scan.proofs.lemmas.inlines.OnePassLemmas.{closed-none, closed-gone, closed-more}
 use Rattle.cm_inline.specs.steps.Depths.{items_depth}
-use Rattle.cm_inline.proofs.lemmas.InlineDepthLemmas.{emphasised-depth, text-first, both, settled-after-depth}
+use Rattle.cm_inline.proofs.lemmas.InlineDepthLemmas.{emphasised-depth, both, settled-after-depth}
 use Rattle.cm_inline.proofs.lemmas.CloserLemmas.{pass-closer, pass-other}
-use Rattle.std.proofs.Common.{rules}
 
 pub reverse-depth : (items : List Item) → items_depth (reverse items) ≡ items_depth items
 reverse-depth [] = refl
@@ -58,15 +55,7 @@ closer-deeper before closer found h s = go (nat_le closer.left (used found.opene
         omega (arith, more, ap items_depth (pass-closer before closer h ∙ closed_by-more before closer found s k), closed-deeper (suc (closer_left found closer).left) (reverse (up_to_pair found closer)) (closer_left found closer))
 
 pub passed-deeper : (before : List Item) (item : Item) → items_depth before ≤ items_depth (passed before item)
-passed-deeper before (Characters t) = omega arith
-passed-deeper before (Finished i) = omega arith
-passed-deeper before (Linked i) = omega arith
-passed-deeper before (Opener b s) = omega arith
-passed-deeper before (Delimiters run) = go run.closes refl
-  where
-    go : (b : Bool) → run.closes ≡ b → items_depth before ≤ items_depth (passed before (Delimiters run))
-    go true h = omega (arith, ap items_depth (pass-closer before run h), closed-deeper (suc run.left) before run)
-    go false h = omega (arith, ap items_depth (pass-other before run h))
+passed-deeper before item = grind (arith, nat_tests, pass-closer, closed-deeper, pass-other)
 
 -- the items that follow take nothing of it
 pub pass-deeper : (before after : List Item) → items_depth before ≤ items_depth (pass_from before after)

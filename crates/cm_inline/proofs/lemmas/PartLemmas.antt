@@ -1,9 +1,7 @@
 -- What the code writes for a pair is a start behind what is left of its opener.
-use Rattle.std.proofs.Common.{◌≡◌, ◌⊎◌, inl, inr, ℕ, suc, ◌+◌, ◌<◌, ◌≤◌, Bool, true, false, cond, ◌==◌, List, [], ◌∷◌, ◌++◌, length, take, drop, reverse, get_or, set, refl, sym, ap, subst, ◌∙◌, arith, append_assoc}
-use Rattle.std.proofs.lemmas.List.{reverse-append, map-append, take-append-le, drop-append-le, length-reverse, get_or-set_same, get_or-set_other}
-use Rattle.std.proofs.lemmas.Bool.{cond-true, cond-false, eq-eqb, ne_eqb, eqb-true}
-use Rattle.cm_scan.specs.inlines.Delimiters.{Run}
-use Rattle.cm_scan.specs.inlines.Pairing.{Item, used}
+use Rattle.cm_inline.proofs.lemmas.Words.{◌≡◌, ℕ, suc, ◌+◌, ◌<◌, ◌≤◌, ◌==◌, List, [], ◌∷◌, ◌++◌, length, take, drop, reverse, get_or, refl, sym, ap, subst, ◌∙◌, arith}
+use Rattle.cm_inline.proofs.lemmas.Words.{append_assoc, reverse-append, map-append, take-append-le, drop-append-le, length-reverse, get_or-set_same, get_or-set_other}
+use Rattle.cm_inline.proofs.lemmas.Words.{cond-true, cond-false, eq-eqb, ne_eqb, eqb-true, Run, Item, used, rules, nat_tests}
 use Rattle.cm_inline.specs.steps.Entries.{Entry}
 use Rattle.cm_inline.proofs.lemmas.NumberLemmas.{nat-split as nat_split}
 use Rattle.cm_inline.specs.steps.pairing.Events.{Event, Text, Rest, Whole, Tag, Start, End, tag_of}
@@ -12,8 +10,6 @@ use Rattle.cm_inline.specs.steps.pairing.Stacks.{taken}
 use Rattle.cm_inline.specs.steps.pairing.Parts.{Pair, PairedRun, Part, Numbered, Known, chain, starts, ends, ends_between, no_run, run_events, events_of, with_pair, with_opened, opened_event, open_at, Absent, Rising, HaveNoRun, AreParts}
 use Rattle.cm_inline.proofs.lemmas.StackLemmas.{Found, pair_events}
 use Rattle.cm_inline.specs.steps.pairing.ClosingRuns.{AreUnder}
-use Rattle.std.proofs.Common.{rules}
-use Rattle.std.proofs.lemmas.Bool.Decides.{nat_tests}
 
 -- chains stay when a pair comes
 pub chain-stays : (p : Pair) (ps : List Pair) (n : ℕ) → n ≤ length ps → chain (p ∷ ps) n ≡ chain ps n
@@ -28,14 +24,12 @@ chain-goes p ps n h = cond-true (n == suc (length ps)) (Start p.tag ∷ chain ps
 open-append : (number count : ℕ) (tag : Tag) (fs gs : List Event) → open_at number count tag (fs ++ gs) ≡ open_at number count tag fs ++ open_at number count tag gs
 unfolding open_at
 open-append number count tag [] gs = refl
-open-append number count tag (f ∷ fs) gs =
-    ap (λ t. opened_event number count tag f ++ t) (open-append number count tag fs gs) ∙ sym (append_assoc (opened_event number count tag f) (open_at number count tag fs) (open_at number count tag gs))
+open-append number count tag (f ∷ fs) gs = search (rules, append_assoc, (open-append number count tag fs gs))
 
 pub open-absent : (number count : ℕ) (tag : Tag) (fs : List Event) → Absent number fs → open_at number count tag fs ≡ fs
 unfolding open_at
 open-absent number count tag [] h = refl
-open-absent number count tag (Rest n r ∷ fs) h =
-    ap (λ t. t ++ open_at number count tag fs) (cond-false (n == number) (Rest n (taken count r) ∷ Start tag ∷ []) (Rest n r ∷ []) h.0) ∙ ap (λ t. Rest n r ∷ t) (open-absent number count tag fs h.1)
+open-absent number count tag (Rest n r ∷ fs) h = search (rules, cond-false, (open-absent number count tag fs h.1))
 open-absent number count tag (Text t ∷ fs) h = ap (λ l. Text t ∷ l) (open-absent number count tag fs h.1)
 open-absent number count tag (Whole i ∷ fs) h = ap (λ l. Whole i ∷ l) (open-absent number count tag fs h.1)
 open-absent number count tag (Start s ∷ fs) h = ap (λ l. Start s ∷ l) (open-absent number count tag fs h.1)
@@ -53,11 +47,7 @@ ends-none (p ∷ ps) = (tt, ends-none ps)
 pub chain-none : (ps : List Pair) (n : ℕ) → HaveNoRun (chain ps n)
 unfolding chain
 chain-none [] n = tt
-chain-none (p ∷ ps) n = go (n == suc (length ps)) (chain-none ps p.before) (chain-none ps n)
-  where
-    go : (b : Bool) → HaveNoRun (chain ps p.before) → HaveNoRun (chain ps n) → HaveNoRun (cond b (Start p.tag ∷ chain ps p.before) (chain ps n))
-    go true h g = (tt, h)
-    go false h g = g
+chain-none (p ∷ ps) n = search (rules, (chain-none ps p.before), (chain-none ps n))
 
 -- the runs among events, with their numbers, are such
 abbrev pub AreSuch : (ℕ → Run → Type 0) → List Event → Type 0
@@ -105,21 +95,14 @@ open-run number count n tag pairs r = search (rules, open-append, open-absent, a
 -- one part, and all
 run-written : (number count : ℕ) (tag : Tag) (runs : List PairedRun) (pairs : List Pair) (n : ℕ) → n < length runs → (get_or runs n no_run).opened ≤ length pairs → (get_or runs n no_run).to ≤ length pairs
     → run_events (with_pair tag number runs pairs) n (get_or (with_opened number count runs pairs) n no_run) ≡ open_at number count tag (run_events pairs n (get_or runs n no_run))
-run-written number count tag runs pairs n within opened to =
-    grind (arith, nat_tests, nat_split, reverse-append, take-append-le, length-reverse, get_or-set_other, chain-stays, cond-false, ne_eqb, open-run, get_or-set_same, chain-goes, cond-true, eq-eqb)
+run-written number count tag runs pairs n within opened to = grind (arith, nat_tests, nat_split, reverse-append, take-append-le, length-reverse, get_or-set_other, chain-stays, cond-false, ne_eqb, open-run, get_or-set_same, chain-goes, cond-true, eq-eqb)
 
 pub pair-written : (number count : ℕ) (tag : Tag) (runs : List PairedRun) (pairs : List Pair) (parts : List Part) → AreParts runs pairs parts
     → events_of (with_opened number count runs pairs) (with_pair tag number runs pairs) parts ≡ open_at number count tag (events_of runs pairs parts)
 unfolding events_of open_at
 pair-written number count tag runs pairs [] h = refl
-pair-written number count tag runs pairs (Numbered n ∷ ms) h =
-    ap (λ t. t ++ events_of (with_opened number count runs pairs) (with_pair tag number runs pairs) ms) (run-written number count tag runs pairs n h.0 h.1 h.2)
-    ∙ ap (λ t. open_at number count tag (run_events pairs n (get_or runs n no_run)) ++ t) (pair-written number count tag runs pairs ms h.3)
-    ∙ sym (open-append number count tag (run_events pairs n (get_or runs n no_run)) (events_of runs pairs ms))
-pair-written number count tag runs pairs (Known fs ∷ ms) h =
-    ap (λ t. fs ++ t) (pair-written number count tag runs pairs ms h.1)
-    ∙ ap (λ t. t ++ open_at number count tag (events_of runs pairs ms)) (sym (open-absent number count tag fs (absent-none number fs h.0)))
-    ∙ sym (open-append number count tag fs (events_of runs pairs ms))
+pair-written number count tag runs pairs (Numbered n ∷ ms) h = search (rules, run-written, open-append, (pair-written number count tag runs pairs ms h.3))
+pair-written number count tag runs pairs (Known fs ∷ ms) h = search (rules, open-absent, absent-none, open-append, (pair-written number count tag runs pairs ms h.1))
 
 -- where the numbers rise, each holds once
 pub absent-below : (low number : ℕ) (fs : List Event) → number < low → Rising low fs → Absent number fs
@@ -131,11 +114,7 @@ absent-below low number (_ ∷ fs) h r = (tt, absent-below low number fs h r)
 pub open-starts : (low number count : ℕ) (tag : Tag) (fs : List Event) → Rising low fs → starts_in (open_at number count tag fs) ≤ starts_in fs + 1
 unfolding open_at
 open-starts low number count tag [] h = omega arith
-open-starts low number count tag (Rest n r ∷ fs) h = go (n == number) refl (open-starts (suc n) number count tag fs h.1)
-  where
-    go : (b : Bool) → (n == number) ≡ b → starts_in (open_at number count tag fs) ≤ starts_in fs + 1 → starts_in (cond b (Rest n (taken count r) ∷ Start tag ∷ []) (Rest n r ∷ []) ++ open_at number count tag fs) ≤ starts_in fs + 1
-    go true e more = omega (arith, ap starts_in (open-absent number count tag fs (absent-below (suc n) number fs (omega (arith, eqb-true n number e)) h.1)))
-    go false e more = more
+open-starts low number count tag (Rest n r ∷ fs) h = search (rules, open-absent, absent-below, eqb-true, (open-starts (suc n) number count tag fs h.1))
 open-starts low number count tag (Start t ∷ fs) h = omega (arith, open-starts low number count tag fs h)
 open-starts low number count tag (_ ∷ fs) h = open-starts low number count tag fs h
 
@@ -146,9 +125,7 @@ pub record Once (low number : ℕ) (front back : List Event) : Type 0 where
 
 pub rising-once : (low number : ℕ) (r : Run) (front back : List Event) → Rising low (front ++ Rest number r ∷ back) → Once low number front back
 rising-once low number r [] back h = record { front_lacks = tt; back_lacks = absent-below (suc number) number back (omega arith) h.1; high = h.0 }
-rising-once low number r (Rest n q ∷ front) back h =
-    let o = rising-once (suc n) number r front back h.1 in
-    record { front_lacks = (ne_eqb n number (λ e. absurd (omega (arith, e, o.high))), o.front_lacks); back_lacks = o.back_lacks; high = omega (arith, h.0, o.high) }
+rising-once low number r (Rest n q ∷ front) back h = search (rules, ne_eqb, (rising-once (suc n) number r front back h.1))
 rising-once low number r (Text t ∷ front) back h = let o = rising-once low number r front back h in record { front_lacks = (tt, o.front_lacks); back_lacks = o.back_lacks; high = o.high }
 rising-once low number r (_ ∷ front) back h = let o = rising-once low number r front back h in record { front_lacks = (tt, o.front_lacks); back_lacks = o.back_lacks; high = o.high }
 

@@ -1,21 +1,16 @@
 -- What a pass begins with, and numbers that rise from one part to the next.
-use Rattle.std.proofs.Common.{◌≡◌, ℕ, zero, suc, ◌≤◌, false, List, [], ◌∷◌, ◌++◌, length, take, drop, get_or, replicate, refl, sym, subst, arith}
-use Rattle.std.proofs.lemmas.List.Sums.{sum_by-cons}
-use Rattle.cm_scan.specs.inlines.Pairing.{Item, Characters, Finished, Linked, Delimiters, Opener}
-use Rattle.cm_scan.specs.inlines.OnePass.{passed}
-use Rattle.cm_inline.specs.Closers.{all_kinds}
+use Rattle.cm_inline.proofs.lemmas.Words.{◌≡◌, ℕ, suc, ◌≤◌, false, List, [], ◌∷◌, ◌++◌, length, take, drop, get_or, refl, arith, sum_by-cons, Item, passed, rules}
+use Rattle.cm_inline.proofs.lemmas.Words.{nat_tests}
 use Rattle.cm_inline.specs.steps.Entries.{above, reserve}
 use Rattle.cm_inline.specs.steps.Openers.{spent, zeros}
 use Rattle.cm_inline.specs.steps.pairing.ClosingRuns.{AreUnder, State, PartsHold}
-use Rattle.cm_inline.specs.steps.pairing.Events.{Event, Text, Rest, Whole, Start, End}
+use Rattle.cm_inline.specs.steps.pairing.Events.{Event, Rest}
 use Rattle.cm_inline.specs.steps.pairing.Parts.{Pair, PairedRun, Part, Numbered, Known, ends, events_of, Rising}
-use Rattle.cm_inline.specs.steps.pairing.Readings.{StandFor}
 use Rattle.cm_inline.specs.steps.pairing.Segments.{is_run}
 use Rattle.cm_inline.specs.steps.pairing.Stacks.{NoneOpens}
 use Rattle.cm_inline.proofs.lemmas.ClosingLemmas.{AreLow, rising-front, drop-all}
 use Rattle.cm_inline.proofs.lemmas.ReadingLemmas.{reads-none}
 use Rattle.cm_inline.proofs.lemmas.SegmentLemmas.{waits-raised}
-use Rattle.std.proofs.Common.{rules}
 
 pub rising-behind-of : (low : ℕ) (fs gs : List Event) → Rising low (fs ++ gs) → Rising low gs
 rising-behind-of low fs gs h = go fs low h
@@ -56,8 +51,7 @@ pub rising-done : (done : List Part) (s : State) (before : List Item) → PartsH
 rising-done done s before w = rising-front 0 (events_of s.runs s.pairs done) (ends (drop (length s.pairs) s.pairs)) w.rising
 
 pub not-run : (before : List Item) (item : Item) → is_run item ≡ false → passed before item ≡ item ∷ before
-not-run before (Delimiters r) h = absurd (cc h)
-not-run before _ h = refl
+not-run before item h = grind (arith, nat_tests)
 
 -- at first nothing waits, and no bottom is known
 abbrev pub beginning : List PairedRun → List Pair → (looks next : ℕ) → State

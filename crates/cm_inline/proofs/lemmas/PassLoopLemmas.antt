@@ -1,15 +1,11 @@
 -- The loop of a pass over the code's numbers.
-use Rattle.std.proofs.Common.{◌≡◌, ◌⊎◌, inl, inr, ℕ, zero, suc, ◌+◌, ◌^◌, ◌<◌, ◌≤◌, List, [], ◌∷◌, ◌++◌, length, take, drop, get_or, refl, sym, ap, subst, ◌∙◌, arith, append_assoc}
-use Rattle.std.proofs.lemmas.List.{get_or-map, length-map, drop_more, drop_all, take_all, take-append-le, drop-append-le}
-use Rattle.std.proofs.lemmas.List.Sums.{sum_by-cons}
-use Rattle.cm_scan.specs.inlines.Pairing.{Item, Delimiters, pair_all}
-use Rattle.cm_scan.specs.inlines.OnePass.{passed}
+use Rattle.cm_inline.proofs.lemmas.Words.{◌≡◌, inl, inr, ℕ, zero, suc, ◌+◌, ◌^◌, ◌<◌, ◌≤◌, List, [], ◌∷◌, ◌++◌, length, take, drop, get_or, refl, sym, ap, subst, ◌∙◌}
+use Rattle.cm_inline.proofs.lemmas.Words.{arith, append_assoc, get_or-map, length-map, drop_more, drop_all, take_all, take-append-le, drop-append-le, sum_by-cons}
+use Rattle.cm_inline.proofs.lemmas.Words.{Item, Delimiters, pair_all, passed, HeldRun, Runs, rules}
 use Rattle.cm_inline.specs.Closers.{all_kinds}
-use Rattle.cm_inline.specs.declared.runs.Run.{Run as HeldRun}
-use Rattle.cm_inline.specs.declared.runs.Runs.{Runs}
 use Rattle.cm_inline.specs.steps.pairing.ClosingRuns.{AreUnder, State, RunComes, PassGoesOn}
 use Rattle.cm_inline.specs.steps.pairing.Events.{Event}
-use Rattle.cm_inline.specs.steps.pairing.Parts.{Pair, Part, PairedRun, no_run as no_paired_run, events_of}
+use Rattle.cm_inline.specs.steps.pairing.Parts.{Part, PairedRun, no_run as no_paired_run, events_of}
 use Rattle.cm_inline.specs.steps.pairing.Passes.{number_after, paid_by, AreNumbers, CanPass, WaitFrom, AllPaired}
 use Rattle.cm_inline.specs.steps.pairing.Readings.{starts_in}
 use Rattle.cm_inline.specs.steps.pairing.Segments.{Segment, Waiting, items_in, all_parts, numbers_in, AreSegments}
@@ -22,7 +18,6 @@ use Rattle.cm_inline.proofs.lemmas.KeptLemmas.{all-parts, segments-from, segment
 use Rattle.cm_inline.proofs.lemmas.PassLemmas.{beginning, nothing-spent, rising-done, zeros-zero}
 use Rattle.cm_inline.proofs.lemmas.ReachLemmas.{Reached, reached-first, reached-run, reached-end, reached-next, reached-starts, reached-deep, waits-fresh, run-comes, end-stands, end-looks}
 use Rattle.cm_inline.proofs.lemmas.StateLemmas.{ready-raised}
-use Rattle.std.proofs.Common.{rules}
 
 -- the first number that waits from a place on
 abbrev pub first_from : Runs → ℕ → ℕ
@@ -63,8 +58,7 @@ numbers-drop low high zero (k ∷ ns) h a = (omega arith, a.1, a.2)
 numbers-drop low high (suc n) (k ∷ ns) h a = numbers-drop (k + 1) high n ns (omega (arith, h)) a.2
 
 ready-none : (looks n : ℕ) (entries : List Entry) → entries ≡ [] → IsReady (record { entries = entries; looks = looks; next = n }) zeros
-ready-none looks n entries e =
-    subst (λ es. IsReady (record { entries = es; looks = looks; next = n }) zeros) (sym e) (record { falling = tt; under = tt; size = refl; low = λ k. (let z = zeros-zero k in omega (arith, z)) })
+ready-none looks n entries e = search (rules, zeros-zero)
 
 pub passing-first : (old : Runs) (openers : Stack) (from : ℕ) → from < length old.waiting.items → CanPass from old → openers.entries ≡ [] → openers.looks ≡ old.openers.looks → Passing old (record old { openers = openers }) zeros from from
 passing-first old openers from more can e k = record {
@@ -94,16 +88,8 @@ reaching-first old openers from front inside a e k =
     let n = number_after 0 front in
     let s = (segments-split 0 (runs_in old.runs.items) (pairs_in old.pairs.items) front inside a.segments).1 in
     let r = reached-first (runs_in old.runs.items) (pairs_in old.pairs.items) old.openers.looks n inside s a.marked in
-    record {
-      next = n;
-      done = [];
-      ahead = inside;
-      before = [];
-      left = sym (inside-waits from old front inside a);
-      reached = subst (λ es. Reached old.openers.looks inside (record { runs = runs_in old.runs.items; pairs = pairs_in old.pairs.items; list = record { entries = es; looks = openers.looks; next = n }; bottoms = zeros }) [] inside []) (sym e)
-          (subst (λ l. Reached old.openers.looks inside (record { runs = runs_in old.runs.items; pairs = pairs_in old.pairs.items; list = record { entries = []; looks = l; next = n }; bottoms = zeros }) [] inside []) (sym k) r);
-      starts = omega arith;
-    }
+    search (rules, n, inside, (sym (inside-waits from old front inside a)),
+        (subst (λ es. Reached old.openers.looks inside (record { runs = runs_in old.runs.items; pairs = pairs_in old.pairs.items; list = record { entries = es; looks = openers.looks; next = n }; bottoms = zeros }) [] inside []) (sym e) (subst (λ l. Reached old.openers.looks inside (record { runs = runs_in old.runs.items; pairs = pairs_in old.pairs.items; list = record { entries = []; looks = l; next = n }; bottoms = zeros }) [] inside []) (sym k) r)))
 
 -- a run
 
@@ -201,17 +187,11 @@ passes-at old new from next front inside before entries bs a r stays same starts
     let pairs = pairs_in new.pairs.items in
     let s : State = record { runs = runs; pairs = pairs; list = record { entries = entries; looks = new.openers.looks; next = next }; bottoms = bs } in
     let behind : AreSegments (runs_in old.runs.items) (pairs_in old.pairs.items) n inside = (segments-split 0 (runs_in old.runs.items) (pairs_in old.pairs.items) front inside a.segments).1 in
-    record {
-      front_stays = stays;
-      front_same = same;
-      reads = end-stands old.openers.looks inside s before r;
-      parts = r.holds.marked;
-      rising = rising-raised n 0 runs pairs (all_parts inside) (all-parts (λ k. n ≤ k) inside (segments-from n n (runs_in old.runs.items) (pairs_in old.pairs.items) inside (omega arith) behind)) r.holds.marked (rising-done (all_parts inside) s before r.holds);
-      under = subst (λ k. AreUnder k (all_parts inside)) (length-map new.runs.items paired_run) (parts-under runs pairs (all_parts inside) r.holds.marked);
-      starts = starts;
-      waiting = w ∙ ap (take from) a.waiting ∙ take-append-le from (numbers_in front) (numbers_in inside) (omega (arith, a.place)) ∙ take_all from (numbers_in front) (omega (arith, a.place));
-      looks = end-looks old.openers.looks inside s before r;
-    }
+    search (rules, stays, same, (end-stands old.openers.looks inside s before r),
+        (rising-raised n 0 runs pairs (all_parts inside) (all-parts (λ k. n ≤ k) inside (segments-from n n (runs_in old.runs.items) (pairs_in old.pairs.items) inside (omega arith) behind)) r.holds.marked (rising-done (all_parts inside) s before r.holds)),
+        (subst (λ k. AreUnder k (all_parts inside)) (length-map new.runs.items paired_run) (parts-under runs pairs (all_parts inside) r.holds.marked)), starts,
+        (w ∙ ap (take from) a.waiting ∙ take-append-le from (numbers_in front) (numbers_in inside) (omega (arith, a.place)) ∙ take_all from (numbers_in front) (omega (arith, a.place))),
+        (end-looks old.openers.looks inside s before r))
 
 -- where nothing waits
 pub passes-none : (old : Runs) (from : ℕ) (front inside : List Segment) → from ≡ length old.waiting.items → WaitFrom from old front inside → AllPaired old old front inside

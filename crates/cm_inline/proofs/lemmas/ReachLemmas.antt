@@ -1,17 +1,11 @@
 -- How far a pass has come among segments: those that it is done with stand for items, and what is ahead waits.
-use Rattle.std.proofs.Common.{◌≡◌, inr, ℕ, ◌+◌, ◌<◌, ◌≤◌, List, [], ◌∷◌, ◌++◌, length, get_or, refl, sym, ap, subst, ◌∙◌, arith, append-nil, append_assoc}
-use Rattle.std.proofs.lemmas.List.{get_or-map, length-map}
-use Rattle.std.proofs.lemmas.List.Sums.{sum_by-cons}
-use Rattle.cm_scan.specs.inlines.Delimiters.{Run}
-use Rattle.cm_scan.specs.inlines.Pairing.{Item, Delimiters, pair_all}
-use Rattle.cm_scan.specs.inlines.OnePass.{passed, pass_from}
-use Rattle.cm_scan.proofs.lemmas.inlines.OnePassLemmas.{pairs_in_one_pass}
-use Rattle.cm_inline.specs.declared.runs.Run.{Run as HeldRun}
+use Rattle.cm_inline.proofs.lemmas.Words.{◌≡◌, inr, ℕ, ◌+◌, ◌<◌, ◌≤◌, List, [], ◌∷◌, ◌++◌, length, get_or, refl, sym, ap, subst, ◌∙◌, arith, append-nil, append_assoc}
+use Rattle.cm_inline.proofs.lemmas.Words.{get_or-map, length-map, sum_by-cons, Run, Item, Delimiters, pair_all, passed, pass_from, pairs_in_one_pass, HeldRun}
 use Rattle.cm_inline.specs.steps.pairing.ClosingRuns.{State, PartsHold, RunComes, PassGoesOn}
 use Rattle.cm_inline.specs.steps.pairing.Paired.{AreRuns}
-use Rattle.cm_inline.specs.steps.pairing.Parts.{Pair, PairedRun, Part, Numbered, no_run as no_paired_run, events_of, Rising}
+use Rattle.cm_inline.specs.steps.pairing.Parts.{Pair, PairedRun, Part, Numbered, no_run as no_paired_run, events_of}
 use Rattle.cm_inline.specs.steps.pairing.Readings.{StandFor, starts_in}
-use Rattle.cm_inline.specs.steps.pairing.Segments.{Segment, Waiting, Made, parts_in, items_in, all_parts, numbers_in, fresh, IsMade, AreSegments}
+use Rattle.cm_inline.specs.steps.pairing.Segments.{Segment, Waiting, Made, parts_in, items_in, all_parts, numbers_in, fresh, AreSegments}
 use Rattle.cm_inline.specs.steps.pairing.States.{no_run, run_at, IsFresh, Grows}
 use Rattle.cm_inline.specs.steps.Depths.{items_depth}
 use Rattle.cm_inline.specs.steps.Openers.{spent}

@@ -1,40 +1,25 @@
 -- A source as far as it is read, with text or an atom more.
-use Rattle.std.proofs.Common.{◌≡◌, ◌⊎◌, inl, inr, ℕ, ◌+◌, ◌^◌, ◌<◌, ◌≤◌, ◌==◌, Bool, true, false, ◌||◌, List, [], ◌∷◌, ◌++◌, length, drop, get_or, reverse, Option, Some, None, refl, sym, ap, subst, ◌∙◌, arith, append-nil, length-append}
-use Rattle.std.specs.Prelude.{nat_lt, not, ◌&&◌, replicate, slice_index, if◌then◌else◌, IsUtf8, encode_utf8, encode_utf8_all}
-use Rattle.std.specs.List.{slice_range, list_all, concat}
-use Rattle.std.specs.Str.{IsCharBoundary}
-use Rattle.std.proofs.lemmas.Bool.Decides.{nat_tests}
-use Rattle.std.proofs.lemmas.List.{reverse-append, map-append, length-map, get_or_push}
-use Rattle.std.proofs.lemmas.Str.{IsCharBoundary-start}
-use Rattle.cm_text.specs.Rules.{Rules}
-use Rattle.cm_text.specs.declared.references.Chars.{Chars}
-use Rattle.cm_text.specs.References.{chars_of}
-use Rattle.cm_tree.specs.Definitions.{Targets}
-use Rattle.cm_scan.specs.inlines.Brackets.{Defined, defined_in, is_linked, holds_link}
-use Rattle.cm_scan.specs.inlines.Pairing.{Item, Characters, Finished, Opener, bracket_text}
+use Rattle.cm_inline.proofs.lemmas.Words.{◌≡◌, ℕ, ◌+◌, ◌^◌, ◌<◌, ◌≤◌, ◌==◌, Bool, true, false, ◌||◌, List, [], ◌∷◌, ◌++◌, length, drop, reverse, Option, Some, None}
+use Rattle.cm_inline.proofs.lemmas.Words.{refl, sym, ap, subst, ◌∙◌, arith, append-nil, length-append, nat_lt, if◌then◌else◌, IsUtf8, encode_utf8, encode_utf8_all}
+use Rattle.cm_inline.proofs.lemmas.Words.{slice_range, list_all, concat, IsCharBoundary, nat_tests, reverse-append, map-append, length-map, get_or_push}
+use Rattle.cm_inline.proofs.lemmas.Words.{IsCharBoundary-start, Rules, Chars, chars_of, Targets, Defined, defined_in, is_linked, holds_link, Item, Characters}
+use Rattle.cm_inline.proofs.lemmas.Words.{Finished, Opener, bracket_text, Bracket, Reader, DelimiterRun, Mark, MissingEnds, Kind, HeldRun, rules}
+use Rattle.std.specs.Prelude.{not, ◌&&◌, slice_index}
 use Rattle.cm_inline.specs.declared.atoms.Atom.{Atom}
 use Rattle.cm_inline.specs.declared.atoms.Atom.TheVariants as atoms
-use Rattle.cm_inline.specs.declared.brackets.Bracket.{Bracket}
-use Rattle.cm_inline.specs.declared.brackets.Reader.{Reader}
-use Rattle.cm_inline.specs.declared.delimiter_runs.DelimiterRun.{DelimiterRun}
-use Rattle.cm_inline.specs.declared.marks.Mark.{Mark}
-use Rattle.cm_inline.specs.declared.missing_ends.MissingEnds.{MissingEnds}
-use Rattle.cm_inline.specs.declared.marks.Kind.{Kind}
 use Rattle.cm_inline.specs.declared.marks.Kind.TheVariants as kinds
-use Rattle.cm_inline.specs.declared.runs.Run.{Run as HeldRun}
 use Rattle.cm_inline.specs.steps.pairing.Events.{Event, Text, Whole}
 use Rattle.cm_tree.specs.declared.tree.Inline.TheVariants as inline
-use Rattle.cm_inline.specs.steps.pairing.Parts.{Pair, PairedRun, Part, Numbered, Known, events_of, IsNoRun}
+use Rattle.cm_inline.specs.steps.pairing.Parts.{Pair, PairedRun, Part, Known, events_of, IsNoRun}
 use Rattle.cm_inline.specs.steps.pairing.Passes.{number_after}
 use Rattle.cm_inline.specs.steps.pairing.Readings.{starts_in, StandFor}
-use Rattle.cm_inline.specs.steps.pairing.Segments.{Segment, Waiting, Made, is_run, items_in, all_parts, numbers_in, AreSegments}
-use Rattle.cm_inline.specs.steps.pairing.States.{AreChained}
+use Rattle.cm_inline.specs.steps.pairing.Segments.{Segment, Waiting, Made, is_run, items_in, all_parts, numbers_in, fresh}
 use Rattle.cm_inline.specs.steps.Brackets.{MarkedLeaf, is_opener, has_opener, AreClosed, opened, AreOpen, View, view_of, leaf_of, events_for, IsRead, IsReadTo, Reading, marks_for, runs_for, numbers_for, brackets_for, Puts}
 use Rattle.cm_inline.specs.steps.Marks.{mark_at, part_of_kind, texts, parts_between, stays_text, is_escaped, IsUnmarked, IsOfKind, AreLaid}
 use Rattle.cm_inline.specs.steps.Missing.{Knows}
 use Rattle.cm_inline.specs.steps.Reads.{IsAtom, item_in, inline_in, IsThere, IsInline, IsTextTo, Pays, ahead, text_items}
 use Rattle.cm_inline.specs.steps.Standalone.{IsBetween}
-use Rattle.cm_inline.specs.steps.Runs.{run_of, runs_in, pairs_in, byte_of}
+use Rattle.cm_inline.specs.steps.Runs.{run_of, runs_in, pairs_in, paired_run}
 use Rattle.cm_inline.proofs.lemmas.DepthLemmas.{inline-shallow}
 use Rattle.cm_inline.proofs.lemmas.JoinLemmas.{later-more, parts-none, parts-one}
 use Rattle.cm_inline.proofs.lemmas.OpenLemmas.{open-more, open-later, open-opened, items-append, all_parts-append, numbers-append}
@@ -42,19 +27,12 @@ use Rattle.cm_inline.proofs.lemmas.PaysLemmas.{nothing-pays, text-pays, atom-mor
 use Rattle.cm_inline.proofs.lemmas.ClosingLemmas.{chain-zero}
 use Rattle.cm_inline.proofs.lemmas.ReadingLemmas.{starts-append}
 use Rattle.cm_inline.proofs.lemmas.SliceLemmas.{slice-none}
-use Rattle.cm_inline.specs.declared.delimiter_runs.Marker.{Marker}
 use Rattle.cm_inline.specs.steps.Searching.{IsMarked}
-use Rattle.cm_inline.specs.steps.pairing.Parts.{no_run as no_paired_run, run_events}
-use Rattle.cm_inline.specs.steps.pairing.States.{no_run}
-use Rattle.cm_inline.specs.steps.pairing.Segments.{fresh}
-use Rattle.cm_inline.specs.steps.pairing.Events.{Rest}
-use Rattle.cm_inline.specs.steps.Runs.{paired_run}
 use Rattle.cm_inline.proofs.lemmas.StandLemmas.{events-more, text-stands, cut-stands, opener-stands, inline-stands, known-made, texts-known, texts-stand, stays-any, AreKnown, runs-append}
 use Rattle.cm_inline.proofs.lemmas.CallerLemmas.{behind-append, segments-append, segments-push, chained-none, chained-push}
 use Rattle.cm_inline.proofs.lemmas.WholeLemmas.{ahead-start, ahead-text, ahead-atom}
 use Rattle.cm_inline.proofs.lemmas.LaidLemmas.{events-append}
 use Rattle.cm_inline.proofs.lemmas.KeptLemmas.{segments-parts}
-use Rattle.std.proofs.Common.{rules}
 
 -- between a place and itself there is no text
 pub none-laid : (lines : Bool) (source : List ℕ) (at : ℕ) → IsCharBoundary source at → IsUnmarked lines source at at
@@ -92,27 +70,19 @@ fresh-read source targets lines ends short utf8 knows =
 pub nothing-read : (rules : Rules) (source : List ℕ) (targets : Targets) (reader : Reader) (lines : Bool) → length source < 2 ^ 32 → IsUtf8 source → view_of reader ≡ fresh_view lines reader.ends → reader.brackets.items ≡ []
     → reader.runs.openers.looks ≡ 0 → Knows source reader.ends → Reading rules source targets 0 reader
 unfolding items_in
-nothing-read rules source targets reader lines short utf8 fresh brackets looks knows = record {
-  segments = [];
-  read = subst (λ bs. IsRead source targets 0 (view_of reader) (reverse bs) []) (sym brackets) (subst (λ v. IsRead source targets 0 v [] []) (sym fresh) (fresh-read source targets lines reader.ends short utf8 knows));
-  goes = ahead-start rules (defined_in targets) source;
-  pays = nothing-pays rules (defined_in targets) source [] reader.runs.openers.looks refl looks;
-}
+nothing-read rules source targets reader lines short utf8 fresh brackets looks knows = search (rules,
+    (subst (λ bs. IsRead source targets 0 (view_of reader) (reverse bs) []) (sym brackets) (subst (λ v. IsRead source targets 0 v [] []) (sym fresh) (fresh-read source targets lines reader.ends short utf8 knows))),
+    (ahead-start rules (defined_in targets) source), (nothing-pays rules (defined_in targets) source [] reader.runs.openers.looks refl looks))
 
 -- starts among texts
 pub texts-start : (runs : List PairedRun) (pairs : List Pair) (text : List ℕ) → starts_in (events_of runs pairs (texts text)) ≡ 0
 unfolding events_of
 texts-start runs pairs [] = refl
-texts-start runs pairs (b ∷ bs) = go (b == 10) ∙ texts-start runs pairs bs
-  where
-    go : (feed : Bool) → starts_in ((if feed then Whole inline.Soft else Text (b ∷ [])) ∷ events_of runs pairs (texts bs)) ≡ starts_in (events_of runs pairs (texts bs))
-    go true = refl
-    go false = refl
+texts-start runs pairs (b ∷ bs) = search (rules, (texts-start runs pairs bs))
 
 pub starts-more : (runs : List PairedRun) (pairs : List Pair) (xs ys : List Segment)
     → starts_in (events_of runs pairs (all_parts (xs ++ ys))) ≡ starts_in (events_of runs pairs (all_parts xs)) + starts_in (events_of runs pairs (all_parts ys))
-starts-more runs pairs xs ys =
-    ap (λ t. starts_in (events_of runs pairs t)) (all_parts-append xs ys) ∙ ap starts_in (events-append runs pairs (all_parts xs) (all_parts ys)) ∙ starts-append (events_of runs pairs (all_parts xs)) (events_of runs pairs (all_parts ys))
+starts-more runs pairs xs ys = search (rules, all_parts-append, events-append, starts-append)
 
 -- Marks more, which stand for an item that is no run, no bracket and no link.
 pub record AreMore (source : List ℕ) (targets : Targets) (v : View) (at end : ℕ) (marks : List Mark) (parts : List Part) (item : Item) : Type 0 where
@@ -171,8 +141,7 @@ module _ (source : List ℕ) (targets : Targets) (v : View) (at end : ℕ) (star
   -- marks and parts that are no run, no bracket and no link
   more-by : (marks : List Mark) (parts : List Part) (item : Item) → AreLaid v.lines source targets v.runs v.links at end marks → parts ≡ parts_between source targets v.links at end marks → AreKnown parts
       → (is_run item ≡ false) × (is_opener item ≡ false) × (is_linked item ≡ false) → StandFor (events_of runs_v pairs_v parts) (item ∷ []) → starts_in (events_of runs_v pairs_v parts) ≡ 0 → More marks parts item
-  more-by marks parts item laid same known other stands starts =
-      record { further = further; boundary = boundary; laid = laid; parts_are = same; known = known; other = other.0; closed = other.1; unlinked = other.2; stands = stands; no_start = starts }
+  more-by marks parts item laid same known other stands starts = search rules
 
   -- text, of which each byte stays text
   text-more : list_all (stays_text true) (slice_range source at end) ≡ true → More [] (texts (slice_range source at end)) (Characters (slice_range source at end))
@@ -189,12 +158,7 @@ module _ (source : List ℕ) (targets : Targets) (v : View) (at end : ℕ) (star
 
   -- an inline of its own
   whole-part : (kind : Kind) → IsInline source at end kind → (part_of_kind source targets v.links at end kind ≡ Known (Whole (inline_in source at end kind) ∷ [])) × IsOfKind source targets v.runs v.links at end kind
-  whole-part (kinds.Code from to) is = (refl, is)
-  whole-part kinds.Html is = (refl, tt)
-  whole-part (kinds.Autolink is_address) is = (refl, is)
-  whole-part kinds.Soft is = (refl, tt)
-  whole-part kinds.Hard is = (refl, tt)
-  whole-part _ is = absurd is
+  whole-part kind is = grind (arith, nat_tests)
 
   pub whole-more : (kind : Kind) → IsInline source at end kind → More (mark_at at end kind ∷ []) (Known (Whole (inline_in source at end kind) ∷ []) ∷ []) (Finished (inline_in source at end kind))
   whole-more kind is =
@@ -367,8 +331,7 @@ module _ (source : List ℕ) (targets : Targets) (v : View) (bs : List Bracket) 
 
   pub run-read : IsRead source targets end with_run bs (segments ++ one_run)
   unfolding numbers_in number_after
-  run-read =
-      grind (arith, nat_tests, run-open, length-map, runs-are, segments-push, runs-append, marker-marked, numbers-append, chained-push, length-append, behind-append, run-starts)
+  run-read = grind (arith, nat_tests, run-open, length-map, runs-are, segments-push, runs-append, marker-marked, numbers-append, chained-push, length-append, behind-append, run-starts)
 
 -- A bracket more, which is open.
 abbrev pub bracket_view : View → (at end : ℕ) → MissingEnds → View
@@ -418,12 +381,8 @@ module _ (source : List ℕ) (targets : Targets) (v : View) (bs : List Bracket) 
       let more = Made parts (item_in source at end atom) (number_after 0 segments) ∷ [] in
       let view : more_view v marks ends ≡ put_view v source at end atom ends =
       same-view (more_view v marks ends) (put_view v source at end atom ends) refl (ap (λ t. v.marks ++ t) (sym same)) (sym (append-nil v.runs) ∙ ap (λ t. v.runs ++ t) (sym runs)) (sym (append-nil v.waiting) ∙ ap (λ t. v.waiting ++ t) (sym numbers)) refl refl refl refl in
-      record {
-        more = more;
-        items = items-append segments more;
-        read = subst (λ b. IsRead source targets end (put_view v source at end atom ends) (reverse b ++ bs) (segments ++ more)) (sym brackets)
-            (subst (λ w. IsRead source targets end w bs (segments ++ more)) view (more-read source targets v bs segments at end marks parts (item_in source at end atom) ends m knows r));
-      }
+      search (rules, more, (items-append segments more),
+          (subst (λ b. IsRead source targets end (put_view v source at end atom ends) (reverse b ++ bs) (segments ++ more)) (sym brackets) (subst (λ w. IsRead source targets end w bs (segments ++ more)) view (more-read source targets v bs segments at end marks parts (item_in source at end atom) ends m knows r))))
 
   pub put-read : (rules : Rules) (atom : Atom) → IsAtom rules source at (item_in source at end atom) end → IsThere source at end atom → PutRead source targets at end v bs segments atom ends
   unfolding items_in
@@ -472,11 +431,7 @@ put-goes rules source targets at end old new within p g =
     let brackets : reverse new.brackets.items ≡ reverse more ++ bs = ap reverse p.brackets ∙ reverse-append old.brackets.items more in
     let items = read.items in
     let looks : new.runs.openers.looks ≡ old.runs.openers.looks = ap (λ o. o.looks) p.openers in
-    record {
-      segments = g.segments ++ read.more;
-      read = subst (λ b. IsRead source targets end (view_of new) b (g.segments ++ read.more)) (sym brackets) (subst (λ w. IsRead source targets end w (reverse more ++ bs) (g.segments ++ read.more)) (sym view) read.read);
-      goes = ap (λ t. ahead rules (defined_in targets) source t end) items ∙ ahead-atom rules (defined_in targets) source (items_in g.segments) at (item_in source at end p.atom) end within is ∙ g.goes;
-      pays = subst (λ n. Pays rules (defined_in targets) source (items_in (g.segments ++ read.more)) end n) (sym looks)
-          (subst (λ t. Pays rules (defined_in targets) source t end old.runs.openers.looks) (sym items)
-          (atom-more-pays rules (defined_in targets) source (items_in g.segments) at (item_in source at end p.atom) end old.runs.openers.looks within is g.pays));
-    }
+    search (rules, (g.segments ++ read.more),
+        (subst (λ b. IsRead source targets end (view_of new) b (g.segments ++ read.more)) (sym brackets) (subst (λ w. IsRead source targets end w (reverse more ++ bs) (g.segments ++ read.more)) (sym view) read.read)),
+        (ap (λ t. ahead rules (defined_in targets) source t end) items ∙ ahead-atom rules (defined_in targets) source (items_in g.segments) at (item_in source at end p.atom) end within is ∙ g.goes),
+        (subst (λ n. Pays rules (defined_in targets) source (items_in (g.segments ++ read.more)) end n) (sym looks) (subst (λ t. Pays rules (defined_in targets) source t end old.runs.openers.looks) (sym items) (atom-more-pays rules (defined_in targets) source (items_in g.segments) at (item_in source at end p.atom) end old.runs.openers.looks within is g.pays))))

@@ -1,24 +1,17 @@
 -- A start and an end write, and nest, as the inline does that is made of what holds between.
-use Rattle.std.proofs.Common.{◌≡◌, ℕ, zero, ◌+◌, ◌-◌, ◌≤◌, Bool, true, false, cond, ◌==◌, max, List, [], ◌∷◌, ◌++◌, map, codes, Some, None, refl, sym, ap, subst, ◌∙◌, arith, append-nil, append_assoc}
+use Rattle.cm_inline.proofs.lemmas.Words.{◌≡◌, ℕ, zero, ◌+◌, ◌-◌, ◌≤◌, Bool, true, false, cond, ◌==◌, max, List, [], ◌∷◌, ◌++◌, map, Some, refl, sym, ap, subst, ◌∙◌}
+use Rattle.cm_inline.proofs.lemmas.Words.{arith, append-nil, append_assoc, cond-true, cond-false, eq-eqb, ne_eqb, flat_map-append, Inline, fold_out-Inline, outs-Text}
+use Rattle.cm_inline.proofs.lemmas.Words.{outs-Link, outs-Image, outs-Emph, outs-Strong, outs-Strike, depth_step, depth_of, inlines_depth, escape_byte, escape}
+use Rattle.cm_inline.proofs.lemmas.Words.{Rendered, inline_step, inlines_html, rendered, Run, Item, emphasised, Characters, Finished, Linked, Delimiters, Opener}
+use Rattle.cm_inline.proofs.lemmas.Words.{bracket_text, text_before, settled_after, settled, rules, nat_tests}
 use Rattle.std.specs.Prelude.{flat_map, replicate}
-use Rattle.std.proofs.lemmas.Bool.{cond-true, cond-false, eq-eqb, ne_eqb}
-use Rattle.std.proofs.lemmas.Grind.{flat_map-append}
-use Rattle.cm_tree.specs.declared.tree.Inline.{Inline}
-use Rattle.cm_tree.specs.declared.tree.Inline.TheFolds.{fold_out-Inline}
 use Rattle.cm_tree.specs.declared.tree.Inline.TheVariants as inlines
-use Rattle.cm_tree.specs.declared.tree.Inline.TheViews.{outs-Text, outs-Link, outs-Image, outs-Emph, outs-Strong, outs-Strike}
-use Rattle.cm_tree.specs.Depth.{depth_step, depth_of, inlines_depth}
-use Rattle.cm_html.specs.Escape.{escape_byte, escape}
-use Rattle.cm_html.specs.Html.{Rendered, inline_step, join_plain, inlines_html, rendered, image_start, image_html, title_html}
-use Rattle.cm_scan.specs.inlines.Delimiters.{Run}
-use Rattle.cm_scan.specs.inlines.Pairing.{Item, emphasised, Characters, Finished, Linked, Delimiters, Opener, bracket_text, text_before, settled_after, settled}
-use Rattle.cm_inline.specs.steps.Depths.{items_depth}
-use Rattle.cm_inline.proofs.lemmas.InlineDepthLemmas.{text-first, both, settled-after-depth}
-use Rattle.cm_inline.specs.steps.pairing.Events.{Event, Text, Rest, Whole, Tag, Emphasis, StrongEmphasis, Strikethrough, LinkTag, Start, End, made_of, tag_of}
-use Rattle.cm_inline.proofs.lemmas.EventLemmas.{means-append, means-none, means-rest, means-empty, means-wrap, tag-makes}
-use Rattle.cm_inline.specs.steps.pairing.Readings.{start_html, end_html, Tags, Alternative, is_number, mode_of, Page, page, write, write_all, item_html, item_plain, AreFree, IsAlone, Writes, deepest, Nests, starts_in, IsNear, StandFor}
+use Rattle.cm_html.specs.Html.{join_plain, image_html}
+use Rattle.cm_inline.proofs.lemmas.InlineDepthLemmas.{both, settled-after-depth}
+use Rattle.cm_inline.specs.steps.pairing.Events.{Event, Text, Rest, Tag, Emphasis, StrongEmphasis, Strikethrough, LinkTag, Start, End, made_of, tag_of}
+use Rattle.cm_inline.proofs.lemmas.EventLemmas.{means-append, means-rest, means-empty, means-wrap, tag-makes}
+use Rattle.cm_inline.specs.steps.pairing.Readings.{start_html, end_html, Tags, Alternative, is_number, mode_of, page, write_all, item_html, item_plain, AreFree, IsAlone, Writes, deepest, Nests, starts_in, IsNear, StandFor}
 use Rattle.cm_inline.proofs.lemmas.WriteLemmas.{write-append}
-use Rattle.std.proofs.Common.{rules}
 
 free-split : (n : ℕ) (fs gs : List Event) → AreFree n (fs ++ gs) → AreFree n fs × AreFree n gs
 free-split n [] gs h = (tt, h)
@@ -44,12 +37,10 @@ abbrev plain_of : List Inline → List ℕ
 plain_of content = join_plain (map rendered content)
 
 pub before-html : (text : List ℕ) (more : List Inline) → inlines_html (text_before text more) ≡ escape text ++ inlines_html more
-before-html [] more = refl
-before-html (b ∷ bs) more = ap (λ html. html ++ inlines_html more) (text-html (b ∷ bs))
+before-html text more = grind (arith, nat_tests, text-html)
 
 before-plain : (text : List ℕ) (more : List Inline) → escape (plain_of (text_before text more)) ≡ escape text ++ escape (plain_of more)
-before-plain [] more = refl
-before-plain (b ∷ bs) more = ap (λ t. escape (t ++ plain_of more)) (text-plain (b ∷ bs)) ∙ flat_map-append escape_byte (b ∷ bs) (plain_of more)
+before-plain text more = grind (arith, nat_tests, text-plain, flat_map-append)
 
 longer : (text more rest : List ℕ) → escape (text ++ more) ++ rest ≡ escape text ++ (escape more ++ rest)
 longer text more rest = ap (λ t. t ++ rest) (flat_map-append escape_byte text more) ∙ append_assoc (escape text) (escape more) rest

@@ -1,19 +1,16 @@
 -- What a delimiter run writes.
-use Rattle.std.proofs.Common.{◌≡◌, ℕ, ◌<◌, ◌≤◌, List, ◌∷◌, ◌++◌, length, get_or, sym, ap, subst, ◌∙◌, arith}
+use Rattle.cm_inline.proofs.lemmas.Words.{◌≡◌, ℕ, ◌<◌, ◌≤◌, List, ◌++◌, length, get_or, sym, ap, subst, ◌∙◌, arith, get_or-map, rules}
 use Rattle.std.specs.Prelude.{replicate}
 use Rattle.cm_inline.specs.declared.runs.Run as held
 use Rattle.cm_inline.specs.declared.runs.Pair as made
-use Rattle.cm_inline.specs.steps.pairing.Events.{Rest}
 use Rattle.cm_inline.specs.steps.pairing.Parts.{PairedRun, no_run, starts, ends_between, run_events}
 use Rattle.cm_inline.specs.steps.pairing.States.{AreChained}
-use Rattle.cm_inline.specs.steps.pairing.Readings.{Tags, page, write_all}
-use Rattle.cm_inline.specs.steps.Runs.{byte_of, run_of, paired_run, runs_in, pairs_in}
+use Rattle.cm_inline.specs.steps.pairing.Readings.{Tags, write_all}
+use Rattle.cm_inline.specs.steps.Runs.{byte_of, paired_run, runs_in, pairs_in}
 use Rattle.cm_inline.specs.steps.Writing.{Adds}
 use Rattle.cm_inline.proofs.lemmas.HtmlLemmas.{run-html}
 use Rattle.cm_inline.proofs.lemmas.TagLemmas.{length-pairs}
 use Rattle.cm_inline.proofs.lemmas.WriteLemmas.{write-append}
-use Rattle.std.proofs.lemmas.List.{get_or-map}
-use Rattle.std.proofs.Common.{rules}
 
 -- the pairs that a run knows of are there
 pub record RunKnown (pairs : List made.Pair) (r : held.Run) : Type 0 where

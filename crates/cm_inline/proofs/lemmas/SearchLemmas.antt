@@ -1,9 +1,9 @@
 -- The search down the list finds the nearest opener among the items, within the looks that may still be made.
-use Rattle.std.proofs.Common.{◌≡◌, ◌⊎◌, inl, inr, ℕ, zero, suc, ◌<◌, ◌≤◌, Bool, true, false, cond, ◌&&◌, nat_le, nat_lt, List, [], ◌∷◌, ◌++◌, length, get_or, set, Option, Some, None, refl, sym, ap, subst, ◌∙◌, arith}
-use Rattle.std.proofs.lemmas.Bool.{cond-true, cond-false, ltb-true, ltb-false, le-leb}
-use Rattle.std.proofs.lemmas.Option.{none-some, same_Some}
-use Rattle.std.proofs.lemmas.List.{get_or-set_other}
-use Rattle.cm_scan.specs.inlines.Delimiters.{Run}
+use Rattle.cm_inline.proofs.lemmas.Words.{◌≡◌, ◌⊎◌, inl, inr, ℕ, zero, suc, ◌<◌, ◌≤◌, Bool, true, false, cond, ◌&&◌, nat_le, List, [], ◌∷◌, ◌++◌, length, get_or, set}
+use Rattle.cm_inline.proofs.lemmas.Words.{Option, Some, None, refl, sym, ap, subst, ◌∙◌, arith, cond-true, cond-false, ltb-true, ltb-false, le-leb, same_Some}
+use Rattle.cm_inline.proofs.lemmas.Words.{get_or-set_other, Run}
+use Rattle.std.proofs.Common.{nat_lt}
+use Rattle.std.proofs.lemmas.Option.{none-some}
 use Rattle.cm_inline.specs.steps.Entries.{Entry, answers, above, Below, Falling}
 use Rattle.cm_inline.specs.steps.Searching.{kind, IsMarked, find_opener, looks_for, from_found, NoneBeneath, NoneAnswers, AreSound}
 use Rattle.cm_inline.proofs.lemmas.BottomLemmas.{kind-match}

@@ -1,10 +1,8 @@
 -- What the parts that a pass has come to stand for, and a made item that it comes to.
-use Rattle.std.proofs.Common.{◌≡◌, ℕ, ◌<◌, ◌≤◌, false, List, [], ◌∷◌, ◌++◌, length, reverse, get_or, refl, sym, ap, subst, ◌∙◌, arith, append-nil, append_assoc}
-use Rattle.cm_scan.specs.inlines.Pairing.{Item, Characters, Finished, Linked, Delimiters, Opener, pair_all, emphasis_of}
-use Rattle.cm_scan.specs.inlines.OnePass.{pass_from}
-use Rattle.cm_scan.proofs.lemmas.inlines.OnePassLemmas.{pairs_in_one_pass}
-use Rattle.cm_inline.specs.steps.Entries.{Entry, Listed, Below}
-use Rattle.cm_inline.specs.steps.pairing.ClosingRuns.{State, so_far, PartsHold}
+use Rattle.cm_inline.proofs.lemmas.Words.{◌≡◌, ℕ, ◌≤◌, false, List, [], ◌∷◌, ◌++◌, length, reverse, sym, ap, subst, ◌∙◌, arith, append-nil, append_assoc, Item}
+use Rattle.cm_inline.proofs.lemmas.Words.{Finished, Delimiters, pair_all, emphasis_of, pass_from, pairs_in_one_pass, rules, nat_tests}
+use Rattle.cm_inline.specs.steps.Entries.{Entry, Listed}
+use Rattle.cm_inline.specs.steps.pairing.ClosingRuns.{State, PartsHold}
 use Rattle.cm_inline.specs.steps.pairing.Events.{Event, Rest, Tag, Start, End, made_of}
 use Rattle.cm_inline.specs.steps.pairing.Readings.{IsAlone, StandFor}
 use Rattle.cm_inline.specs.steps.pairing.Parts.{Pair, PairedRun, Part, Known, ends, events_of, Rising}
@@ -17,7 +15,6 @@ use Rattle.cm_inline.proofs.lemmas.StackLemmas.{holds-append}
 use Rattle.cm_inline.proofs.lemmas.WaitLemmas.{waits-others}
 use Rattle.cm_inline.proofs.lemmas.LaidLemmas.{events-append}
 use Rattle.cm_inline.proofs.lemmas.SearchLemmas.{below-more}
-use Rattle.std.proofs.Common.{rules}
 
 -- the last entry holds for the run that it is of
 stacked-means : (es : List Entry) (fs : List Event) (items : List Item) → Stacked es fs items → StandFor fs (reverse items)
@@ -44,8 +41,7 @@ link-means runs pairs parts items tag stands alone =
 
 none : (item : Item) → is_run item ≡ false → NoneOpens (item ∷ [])
 unfolding NoneOpens
-none (Delimiters r) h = absurd (cc h)
-none _ h = (refl, tt)
+none item h = grind (arith, nat_tests)
 
 -- the next number may be a higher one
 pub waits-raised : {fs : List Event} {before : List Item} {l : Listed} {bs : List ℕ} (n : ℕ) → l.next ≤ n → WaitAsOpeners fs before l bs → WaitAsOpeners fs before (record l { next = n }) bs
@@ -59,10 +55,6 @@ pass-made done ms item high s before w m rising =
     let gone = ap (λ t. events_of s.runs s.pairs done ++ ends t) (drop-all s.pairs) ∙ append-nil (events_of s.runs s.pairs done) in
     let whole = ap (λ t. events_of s.runs s.pairs (done ++ ms) ++ ends t) (drop-all s.pairs) ∙ append-nil (events_of s.runs s.pairs (done ++ ms)) ∙ events-append s.runs s.pairs done ms in
     let waits = subst (λ fs. WaitAsOpeners fs before s.list s.bottoms) gone w.waits in
-    record {
-      waits = subst (λ fs. WaitAsOpeners fs (item ∷ before) (record s.list { next = high }) s.bottoms) (sym whole) (waits-raised high m.high_is (waits-others (events_of s.runs s.pairs done) (events_of s.runs s.pairs ms) before (item ∷ []) s.list s.bottoms waits m.means (none item m.other)));
-      marked = parts-append s.runs s.pairs done ms w.marked m.marked;
-      under = under-append s.list.next high done ms m.high_is w.under m.under;
-      rising = subst (Rising 0) (sym whole) rising;
-      early = omega arith;
-    }
+    search (rules,
+        (subst (λ fs. WaitAsOpeners fs (item ∷ before) (record s.list { next = high }) s.bottoms) (sym whole) (waits-raised high m.high_is (waits-others (events_of s.runs s.pairs done) (events_of s.runs s.pairs ms) before (item ∷ []) s.list s.bottoms waits m.means (none item m.other)))),
+        (parts-append s.runs s.pairs done ms w.marked m.marked), (under-append s.list.next high done ms m.high_is w.under m.under), (subst (Rising 0) (sym whole) rising))

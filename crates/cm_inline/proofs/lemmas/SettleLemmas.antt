@@ -1,28 +1,18 @@
 -- What inlines marks build, one after another.
-use Rattle.std.proofs.Common.{◌≡◌, ℕ, ◌+◌, ◌-◌, ◌<◌, ◌≤◌, Bool, true, List, [], ◌∷◌, ◌++◌, length, drop, get_or, refl, sym, ap, subst, ◌∙◌}
-use Rattle.std.specs.Prelude.{encode_utf8}
-use Rattle.std.specs.List.{slice_range}
-use Rattle.std.proofs.lemmas.List.{drop_more, drop_all, get_or_read}
-use Rattle.cm_tree.specs.Definitions.{Targets}
-use Rattle.cm_tree.specs.declared.tree.Inline.{Inline}
+use Rattle.cm_inline.proofs.lemmas.Words.{◌≡◌, ℕ, ◌+◌, ◌-◌, ◌<◌, ◌≤◌, Bool, true, List, [], ◌∷◌, ◌++◌, length, drop, get_or, refl, sym, ap, subst, ◌∙◌, encode_utf8}
+use Rattle.cm_inline.proofs.lemmas.Words.{slice_range, drop_more, drop_all, get_or_read, Targets, Inline, one_line, Link, Reader, Kind, Mark, rules}
 use Rattle.cm_tree.specs.declared.tree.Inline.TheVariants as inlines
-use Rattle.cm_scan.specs.spans.CodeSpans.{one_line}
-use Rattle.cm_inline.specs.declared.brackets.Link.{Link}
-use Rattle.cm_inline.specs.declared.brackets.Reader.{Reader}
-use Rattle.cm_inline.specs.declared.marks.Kind.{Kind}
 use Rattle.cm_inline.specs.declared.marks.Kind.TheVariants as kinds
-use Rattle.cm_inline.specs.declared.marks.Mark.{Mark}
-use Rattle.cm_inline.specs.steps.pairing.Events.{Built, ended, innermost, others, add_text, add_inline, build, made_of, nothing_built, inlines_of}
-use Rattle.cm_inline.specs.steps.pairing.Parts.{part_events, events_of}
+use Rattle.cm_inline.specs.steps.pairing.Events.{Built, ended, innermost, others, add_text, add_inline, build, made_of, inlines_of}
+use Rattle.cm_inline.specs.steps.pairing.Parts.{part_events}
 use Rattle.cm_inline.specs.steps.Building.{opened, closed, IsBuiltTo}
-use Rattle.cm_inline.specs.steps.Marks.{link_tag, no_link, texts, part_of_kind, IsUnmarked, AreLaid, events_in, IsOfKind}
+use Rattle.cm_inline.specs.steps.Marks.{link_tag, part_of_kind, IsUnmarked, AreLaid, events_in}
 use Rattle.cm_inline.specs.steps.Runs.{runs_in, pairs_in}
 use Rattle.cm_inline.specs.steps.Standalone.{autolink}
-use Rattle.cm_inline.specs.steps.Writing.{no_mark, mark_numbered, mark_events, events_from, IsMarkIn}
+use Rattle.cm_inline.specs.steps.Writing.{no_mark, mark_numbered, mark_events, IsMarkIn}
 use Rattle.cm_inline.proofs.lemmas.BuildLemmas.{texts-built}
 use Rattle.cm_inline.proofs.lemmas.LaidLemmas.{events-next, events-last}
 use Rattle.cm_inline.proofs.lemmas.EventLemmas.{build-append}
-use Rattle.std.proofs.Common.{rules}
 
 -- one mark
 
@@ -64,8 +54,7 @@ built-html source targets reader mark m new part text is of copy e = of-kind sou
 pub built-autolink : (source : List ℕ) (targets : Targets) (reader : Reader) (mark : Mark) (m new : Built) (part : List ℕ) (is_address : Bool) (link : Inline) → mark.kind ≡ kinds.Autolink is_address → part ≡ slice_range source (mark.at + 1) (mark.end - 1)
     → link ≡ autolink is_address part → new ≡ add_inline m link → new ≡ build m (mark_events source targets reader mark)
 unfolding build
-built-autolink source targets reader mark m new part is_address link is of linked e =
-    of-kind source targets reader mark m new (kinds.Autolink is_address) is (e ∙ ap (add_inline m) (linked ∙ ap (autolink is_address) of))
+built-autolink source targets reader mark m new part is_address link is of linked e = search (rules, of-kind)
 
 pub built-soft : (source : List ℕ) (targets : Targets) (reader : Reader) (mark : Mark) (m new : Built) → mark.kind ≡ kinds.Soft → new ≡ add_inline m inlines.Soft → new ≡ build m (mark_events source targets reader mark)
 unfolding build
@@ -91,8 +80,7 @@ of_parts content text outer = record { content = content; text = text; outer = o
 
 pub closed-with : (m : Built) (text : List ℕ) (before after : List Inline) (outer : List (List Inline)) (inline made : Inline) → of_parts before text outer ≡ of_parts (innermost m.outer) [] (others m.outer)
     → after ≡ before ++ inline ∷ [] → inline ≡ made → of_parts after text outer ≡ closed m made
-closed-with m text before after outer inline made left pushed is =
-    ap (λ c. of_parts c text outer) (pushed ∙ ap (λ (i : Inline). before ++ i ∷ []) is) ∙ ap (λ (b : Built). of_parts (b.content ++ made ∷ []) b.text b.outer) left
+closed-with m text before after outer inline made left pushed is = search rules
 
 -- all of them
 

@@ -1,8 +1,6 @@
 -- A source between its places.
-use Rattle.std.proofs.Common.{◌≡◌, ℕ, ◌+◌, ◌-◌, ◌<◌, ◌≤◌, List, [], ◌∷◌, ◌++◌, length, take, drop, get_or, reverse, sym, ap, ◌∙◌, arith, drop-drop, take-add}
-use Rattle.std.specs.List.{slice_range}
-use Rattle.std.proofs.lemmas.List.{reverse-append, drop_more, take-append-drop}
-use Rattle.std.proofs.Common.{rules}
+use Rattle.cm_inline.proofs.lemmas.Words.{◌≡◌, ℕ, ◌+◌, ◌-◌, ◌<◌, ◌≤◌, List, [], ◌∷◌, ◌++◌, length, take, drop, get_or, reverse, sym, ap, ◌∙◌, arith, drop-drop}
+use Rattle.cm_inline.proofs.lemmas.Words.{take-add, slice_range, reverse-append, drop_more, take-append-drop, rules}
 
 -- the source between two places
 pub slice-front : (source : List ℕ) (at end : ℕ) → at ≤ end → drop at source ≡ slice_range source at end ++ drop end source

@@ -1,11 +1,7 @@
 -- A closer's search from the top of the stack of openers, and what its pair does to the stack and to the events.
-use Rattle.std.proofs.Common.{◌≡◌, ℕ, ◌≤◌, Bool, true, false, cond, nat_le, ◌&&◌, List, [], ◌∷◌, ◌++◌, reverse, Some, None, refl, sym, ap, subst, ◌∙◌, arith, append_assoc}
-use Rattle.std.proofs.lemmas.List.{reverse-append, reverse-reverse}
-use Rattle.std.proofs.lemmas.Bool.{leb-true}
-use Rattle.cm_scan.specs.inlines.Delimiters.{Run, delimiters_match}
-use Rattle.cm_scan.specs.inlines.Pairing.{Item, Characters, Finished, Linked, Delimiters, Opener, nearest_opener, used, emphasised, settled, without}
-use Rattle.cm_scan.specs.inlines.OnePass.{up_to_pair}
-use Rattle.cm_scan.proofs.lemmas.inlines.PairingLemmas.{opened_at}
+use Rattle.cm_inline.proofs.lemmas.Words.{◌≡◌, ℕ, ◌≤◌, Bool, true, false, cond, nat_le, ◌&&◌, List, [], ◌∷◌, ◌++◌, reverse, Some, None, refl, sym, ap, subst, ◌∙◌}
+use Rattle.cm_inline.proofs.lemmas.Words.{arith, append_assoc, reverse-append, reverse-reverse, leb-true, Run, delimiters_match, Item, Finished, Delimiters}
+use Rattle.cm_inline.proofs.lemmas.Words.{nearest_opener, used, emphasised, settled, without, up_to_pair, opened_at, rules}
 use Rattle.cm_inline.specs.steps.Entries.{Entry, answers}
 use Rattle.cm_inline.specs.steps.Searching.{NoneAnswers}
 use Rattle.cm_inline.proofs.lemmas.BottomLemmas.{NoOpener, nearest-none, nearest-at}
@@ -13,7 +9,6 @@ use Rattle.cm_inline.specs.steps.pairing.Events.{Event, Rest, Tag, Start, End, t
 use Rattle.cm_inline.specs.steps.pairing.Readings.{StandFor}
 use Rattle.cm_inline.specs.steps.pairing.Stacks.{NoneOpens, Stacked, taken, rest_of}
 use Rattle.cm_inline.proofs.lemmas.ReadingLemmas.{reads-append, reads-none, reads-rest, reads-empty, reads-pair}
-use Rattle.std.proofs.Common.{rules}
 
 -- items with the last first
 pub holds-append : (fs gs : List Event) (items more : List Item) → StandFor fs (reverse items) → StandFor gs (reverse more) → StandFor (fs ++ gs) (reverse (more ++ items))
@@ -98,8 +93,7 @@ stacked-found c (x ∷ xs) e below fs items s h = go (stacked-found c xs e below
 pub stacked-no : (c : Run) (es : List Entry) (fs : List Event) (items : List Item) → Stacked es fs items → NoneAnswers c es → NoOpener c items
 unfolding NoOpener
 stacked-no c [] fs items s h = none-no c items s.1
-stacked-no c (e ∷ es) fs items s h =
-    subst (NoOpener c) (sym s.whole) (no-append c s.inside (Delimiters e.run ∷ s.low) (none-no c s.inside s.none) (h.0, stacked-no c es s.front s.low s.below h.1))
+stacked-no c (e ∷ es) fs items s h = search (rules, no-append, none-no, (stacked-no c es s.front s.low s.below h.1))
 
 -- so the search of the stack finds what the definition finds
 pub found-nearest : (c : Run) (e : Entry) (below : List Entry) (fs : List Event) (items : List Item) (f : Found c e below fs items) → answers c e ≡ true → nearest_opener c items [] ≡ Some (opened_at e.run f.low (reverse f.inside))

@@ -1,26 +1,15 @@
 -- Texts cut in pieces, and what marks that were read stand for.
-use Rattle.std.proofs.Common.{◌≡◌, ℕ, zero, suc, ◌+◌, ◌<◌, ◌≤◌, ◌==◌, ◌&&◌, Bool, true, false, List, [], ◌∷◌, ◌++◌, length, map, get_or, refl, sym, ap, subst, ◌∙◌, arith, append_assoc, append-nil, length-append}
-use Rattle.std.specs.Prelude.{if◌then◌else◌}
-use Rattle.std.specs.List.{list_all, concat}
-use Rattle.std.proofs.lemmas.Bool.{and_parts}
-use Rattle.std.proofs.lemmas.Bool.Decides.{nat_tests}
-use Rattle.std.proofs.lemmas.Grind.{flat_map-append}
-use Rattle.cm_html.specs.Escape.{escape, escape_byte}
-use Rattle.cm_tree.specs.Depth.{depth_of}
-use Rattle.cm_tree.specs.declared.tree.Inline.{Inline}
+use Rattle.cm_inline.proofs.lemmas.Words.{◌≡◌, ℕ, ◌+◌, ◌≤◌, ◌==◌, ◌&&◌, Bool, true, false, List, [], ◌∷◌, ◌++◌, map, refl, sym, ap, subst, ◌∙◌, arith, append_assoc}
+use Rattle.cm_inline.proofs.lemmas.Words.{append-nil, if◌then◌else◌, list_all, concat, and_parts, nat_tests, flat_map-append, escape, escape_byte, depth_of, Inline}
+use Rattle.cm_inline.proofs.lemmas.Words.{Item, Characters, Finished, Opener, bracket_text, get_or_append_left, rules}
 use Rattle.cm_tree.specs.declared.tree.Inline.TheVariants as inline
-use Rattle.cm_html.specs.Html.{rendered}
-use Rattle.cm_scan.specs.inlines.Pairing.{Item, Characters, Finished, Opener, bracket_text}
 use Rattle.cm_inline.specs.steps.pairing.ClosingRuns.{AreUnder}
-use Rattle.cm_inline.specs.steps.pairing.Events.{Event, Text, Whole, Start, End, Rest, Built, build, add_text}
-use Rattle.cm_inline.specs.steps.pairing.Parts.{Pair, PairedRun, Part, Numbered, Known, no_run, run_events, events_of, AreParts, Rising, HaveNoRun, IsNoRun}
-use Rattle.cm_inline.specs.steps.pairing.Readings.{Tags, Alternative, Mode, page, write_all, deepest, StandFor}
+use Rattle.cm_inline.specs.steps.pairing.Events.{Event, Text, Whole, Rest, Built, build, add_text}
+use Rattle.cm_inline.specs.steps.pairing.Parts.{Pair, PairedRun, Part, Numbered, Known, events_of, AreParts, Rising, HaveNoRun, IsNoRun}
+use Rattle.cm_inline.specs.steps.pairing.Readings.{Mode, page, write_all, deepest, StandFor}
 use Rattle.cm_inline.specs.steps.pairing.Paired.{AreRuns}
-use Rattle.cm_inline.specs.steps.pairing.Passes.{number_after}
-use Rattle.cm_inline.specs.steps.pairing.Segments.{Segment, Waiting, Made, is_run, all_parts, IsMade, AreSegments}
+use Rattle.cm_inline.specs.steps.pairing.Segments.{Segment, Waiting, Made, is_run, IsMade}
 use Rattle.cm_inline.specs.steps.Marks.{text_event, texts, stays_text}
-use Rattle.std.proofs.lemmas.List.{get_or_append_left}
-use Rattle.std.proofs.Common.{rules}
 
 -- texts side by side
 abbrev pub text_events : List (List ℕ) → List Event
@@ -153,6 +142,5 @@ runs-split (Made parts item high ∷ xs) ys h = runs-split xs ys h
 pub events-more : (runs more : List PairedRun) (pairs : List Pair) (ms : List Part) → AreParts runs pairs ms → events_of (runs ++ more) pairs ms ≡ events_of runs pairs ms
 unfolding events_of
 events-more runs more pairs [] h = refl
-events-more runs more pairs (Numbered number ∷ ms) h =
-    ap (λ r. run_events pairs number r ++ events_of (runs ++ more) pairs ms) (get_or_append_left runs more no_run number h.0) ∙ ap (λ t. run_events pairs number (get_or runs number no_run) ++ t) (events-more runs more pairs ms h.3)
+events-more runs more pairs (Numbered number ∷ ms) h = search (rules, get_or_append_left, (events-more runs more pairs ms h.3))
 events-more runs more pairs (Known fs ∷ ms) h = ap (λ t. fs ++ t) (events-more runs more pairs ms h.1)

@@ -1,26 +1,14 @@
 -- Where the text of an inline is that contains no other.
-use Rattle.std.proofs.Common.{◌≡◌, ℕ, zero, suc, ◌+◌, ◌-◌, ◌<◌, ◌≤◌, ◌==◌, ◌&&◌, not, cond, Bool, true, false, List, [], ◌∷◌, ◌++◌, length, take, drop, get_or, Option, Some, None, codes, refl, sym, ap, subst, ◌∙◌, arith, length-append, length-drop, drop-drop}
-use Rattle.std.specs.Prelude.{IsUtf8}
-use Rattle.std.specs.List.{slice_range}
-use Rattle.std.specs.Str.{IsCharBoundary}
-use Rattle.std.proofs.lemmas.Bool.{eqb-true, and_parts}
-use Rattle.std.proofs.lemmas.List.{drop_more}
-use Rattle.std.proofs.lemmas.Option.{same_Some}
-use Rattle.std.proofs.lemmas.Str.{IsCharBoundary-before_ascii, IsCharBoundary-after_ascii}
-use Rattle.std.proofs.Math.Seq.{take-append_seam, drop-append_seam}
-use Rattle.cm_text.specs.Rules.{Rules}
-use Rattle.cm_text.specs.Addresses.{is_followed}
-use Rattle.cm_scan.specs.Words.{begins_with, run_length, after_run, after_word, front_of, skip}
-use Rattle.cm_scan.specs.inlines.Links.{Reading, behind}
-use Rattle.cm_scan.specs.spans.Angles.{before}
-use Rattle.cm_scan.specs.spans.Autolinks.{Autolink, is_inside, ended, in_angles, is_absolute, is_address, as_autolink, autolink, link_if_followed, followed_autolink}
-use Rattle.cm_scan.specs.Scanned.{whole_of}
-use Rattle.cm_scan.specs.spans.CodeSpans.{up_to_run, as_written, spanned_as_written}
-use Rattle.cm_scan.proofs.lemmas.texts.WordsGoOn.{none-some}
-use Rattle.cm_scan.proofs.lemmas.texts.ScannerAnswers.{begins-at}
+use Rattle.cm_inline.proofs.lemmas.Words.{◌≡◌, ℕ, zero, suc, ◌+◌, ◌-◌, ◌<◌, ◌≤◌, ◌==◌, ◌&&◌, not, Bool, true, false, List, [], ◌∷◌, ◌++◌, length, take, drop, get_or}
+use Rattle.cm_inline.proofs.lemmas.Words.{Option, Some, None, refl, sym, ap, subst, ◌∙◌, arith, length-append, length-drop, drop-drop, IsUtf8, slice_range}
+use Rattle.cm_inline.proofs.lemmas.Words.{IsCharBoundary, eqb-true, and_parts, drop_more, same_Some, IsCharBoundary-before_ascii, IsCharBoundary-after_ascii}
+use Rattle.cm_inline.proofs.lemmas.Words.{drop-append_seam, Rules, begins_with, run_length, after_run, after_word, Reading, behind, before, Autolink}
+use Rattle.cm_inline.proofs.lemmas.Words.{followed_autolink, whole_of, up_to_run, spanned_as_written, none-some, begins-at, rules, nat_tests}
+use Rattle.std.proofs.Math.Seq.{take-append_seam}
+use Rattle.cm_scan.specs.Words.{front_of, skip}
+use Rattle.cm_scan.specs.spans.Autolinks.{in_angles, as_autolink, autolink}
+use Rattle.cm_scan.specs.spans.CodeSpans.{as_written}
 use Rattle.cm_inline.specs.steps.Standalone.{IsBetween}
-use Rattle.std.proofs.Common.{rules}
-use Rattle.std.proofs.lemmas.Bool.Decides.{nat_tests}
 
 -- what is before the next run is the front of the text, and a backtick is after it
 
@@ -86,20 +74,11 @@ span-placed source at start inside rest e left boundary =
 front-skip : (test : ℕ → Bool) (bs : List ℕ) → front_of test bs ++ skip test bs ≡ bs
 unfolding front_of skip
 front-skip test [] = refl
-front-skip test (b ∷ bs) = go (front-skip test bs) (test b)
-  where
-    go : front_of test bs ++ skip test bs ≡ bs → (v : Bool) → (elim v as (λ _. List ℕ) [ true ↦ b ∷ front_of test bs | false ↦ [] ]) ++ (elim v as (λ _. List ℕ) [ true ↦ skip test bs | false ↦ b ∷ bs ]) ≡ b ∷ bs
-    go again true = ap (λ t. b ∷ t) again
-    go again false = refl
+front-skip test (b ∷ bs) = search (rules, (front-skip test bs))
 
 one-word : (c : ℕ) (text rest : List ℕ) → after_word (c ∷ []) text ≡ Some rest → text ≡ c ∷ rest
 unfolding after_word
-one-word c [] rest e = none-some e
-one-word c (b ∷ bs) rest e = go (b == c) refl e
-  where
-    go : (v : Bool) → (b == c) ≡ v → (elim v as (λ _. Option (List ℕ)) [ true ↦ Some bs | false ↦ None ]) ≡ Some rest → b ∷ bs ≡ c ∷ rest
-    go true is h = ap (λ t. t ∷ bs) (eqb-true b c is) ∙ ap (λ t. c ∷ t) (same_Some bs rest h)
-    go false is h = none-some h
+one-word c text rest e = grind (arith, nat_tests, none-some, eqb-true, same_Some)
 
 angled : (text : List ℕ) (r : Reading) → in_angles text ≡ Some r → text ≡ 60 ∷ (r.text ++ 62 ∷ r.rest)
 unfolding in_angles
@@ -160,15 +139,4 @@ unfolding before
 whole-placed source at end low high = search (rules, length-drop)
 
 pub whole-text : (text html rest : List ℕ) (o : Option (List ℕ)) → Some (record { text = html; rest = rest }) ≡ whole_of text o → html ≡ before rest text
-whole-text text html rest None e = none-some (sym e)
-whole-text text html rest (Some left) e =
-    let same : rest ≡ left = ap rest_of e in
-    ap text_of e ∙ ap (λ t. before t text) (sym same)
-  where
-    rest_of : Option Reading → List ℕ
-    rest_of None = []
-    rest_of (Some r) = r.rest
-
-    text_of : Option Reading → List ℕ
-    text_of None = []
-    text_of (Some r) = r.text
+whole-text text html rest o e = grind (arith, nat_tests, none-some)

@@ -1,29 +1,22 @@
 -- What a pass keeps with no segments at hand: numbers fall, looks are paid for, and only the runs of entries are written to.
-use Rattle.std.proofs.Common.{◌≡◌, ◌⊎◌, inl, inr, ℕ, ◌+◌, ◌-◌, ◌<◌, ◌≤◌, Bool, true, false, cond, nat_le, ◌==◌, List, [], ◌∷◌, ◌++◌, length, take, get_or, set, Some, None, refl, sym, ap, subst, ◌∙◌, arith, append-nil, append_assoc, length-append}
-use Rattle.std.proofs.lemmas.List.{map-set, get_or-map, get_or-set_same, get_or-set_other, get_or_push, get_or_append_left, length-set, length-map, length-take}
-use Rattle.std.proofs.lemmas.List.Sums.{sum_by-cons}
-use Rattle.std.proofs.lemmas.Bool.{cond-true, cond-false, leb-true, leb-false, eq-eqb, ne_eqb}
-use Rattle.cm_scan.specs.inlines.Delimiters.{Run}
-use Rattle.cm_scan.specs.inlines.Pairing.{used}
+use Rattle.cm_inline.proofs.lemmas.Words.{◌≡◌, ℕ, ◌+◌, ◌-◌, ◌<◌, ◌≤◌, true, false, cond, nat_le, List, [], ◌∷◌, ◌++◌, length, take, get_or, set, Some, None, refl, sym}
+use Rattle.cm_inline.proofs.lemmas.Words.{ap, subst, ◌∙◌, arith, append-nil, append_assoc, length-append, map-set, get_or-map, get_or-set_same, get_or-set_other}
+use Rattle.cm_inline.proofs.lemmas.Words.{get_or_push, get_or_append_left, length-set, length-map, length-take, sum_by-cons, Run, used, HeldRun, HeldPair, Runs, rules}
 use Rattle.cm_inline.specs.Closers.{all_kinds}
-use Rattle.cm_inline.specs.declared.runs.Run.{Run as HeldRun}
-use Rattle.cm_inline.specs.declared.runs.Pair.{Pair as HeldPair}
-use Rattle.cm_inline.specs.declared.runs.Runs.{Runs}
 use Rattle.cm_inline.specs.steps.pairing.ClosingRuns.{State}
 use Rattle.cm_inline.specs.steps.pairing.Events.{Tag}
 use Rattle.cm_inline.specs.steps.pairing.Parts.{Pair, PairedRun, no_run as no_paired_run, with_pair}
 use Rattle.cm_inline.specs.steps.pairing.Stacks.{taken, rest_of}
-use Rattle.cm_inline.specs.steps.pairing.States.{no_run, run_at, SameRuns, no_pair, AreChained, state_of, IsReady, EntriesFrom, Grows, RunSteps, with_left}
+use Rattle.cm_inline.specs.steps.pairing.States.{run_at, SameRuns, AreChained, state_of, IsReady, EntriesFrom, Grows, RunSteps, with_left}
 use Rattle.cm_inline.specs.steps.Entries.{Entry, Listed, Below, reserve}
-use Rattle.cm_inline.specs.steps.Openers.{Stack, spent, left_of, leaving}
+use Rattle.cm_inline.specs.steps.Openers.{Stack, spent, leaving}
 use Rattle.cm_inline.specs.steps.Runs.{paired_run, runs_in, pairs_in, pair_in}
 use Rattle.cm_inline.specs.steps.Searching.{kind, find_opener, looks_for}
 use Rattle.cm_inline.proofs.lemmas.BottomLemmas.{kind-small}
 use Rattle.cm_inline.proofs.lemmas.NumberLemmas.{nat-split as nat_split}
 use Rattle.cm_inline.proofs.lemmas.ReserveLemmas.{reserve-push}
 use Rattle.cm_inline.proofs.lemmas.SearchLemmas.{FoundBy, find-found, below-more}
-use Rattle.cm_inline.proofs.lemmas.WaitLemmas.{with_looks, after_pair, ready-fails, paid-fails, ready-pairs, paid-pairs}
-use Rattle.std.proofs.Common.{rules}
+use Rattle.cm_inline.proofs.lemmas.WaitLemmas.{after_pair, ready-fails, paid-fails, ready-pairs, paid-pairs}
 
 -- what the code leaves of an entry
 
@@ -54,8 +47,7 @@ grows-rest low high old s t g e p = search rules
 
 pub chained-write : (runs now : List PairedRun) (pairs more : List Pair) (number : ℕ) (x : PairedRun) (p : Pair) → number < length runs → AreChained runs pairs → now ≡ set runs number x → more ≡ pairs ++ p ∷ [] → p.before ≤ length pairs → x.opened ≤ length more → x.from ≤ x.to → x.to ≤ length more
     → AreChained now more
-chained-write runs now pairs more number x p within c e m b o f t =
-    search (rules, length-append, nat_split, get_or_push, get_or_append_left, get_or-set_same, get_or-set_other)
+chained-write runs now pairs more number x p within c e m b o f t = search (rules, length-append, nat_split, get_or_push, get_or_append_left, get_or-set_same, get_or-set_other)
 
 pub chained-put : (runs now : List PairedRun) (pairs : List Pair) (number : ℕ) (x : PairedRun) → number < length runs → AreChained runs pairs → now ≡ set runs number x → x.opened ≤ length pairs → x.from ≤ x.to → x.to ≤ length pairs → AreChained now pairs
 chained-put runs now pairs number x within c e o f t = search rules
@@ -78,8 +70,7 @@ below-found n [] e ys b = b.0
 below-found n (x ∷ xs) e ys b = below-found n xs e ys b.1
 
 pub pair-long : (old now : List HeldPair) (tag : Tag) (number : ℕ) (runs : List PairedRun) → pairs_in now ≡ with_pair tag number runs (pairs_in old) → length now ≡ length old + 1
-pair-long old now tag number runs e =
-    omega (arith, ap length e, length-append (pairs_in old) (record { tag = tag; before = (get_or runs number no_paired_run).opened } ∷ []), length-map old pair_in, length-map now pair_in)
+pair-long old now tag number runs e = search (rules, length-append, length-map)
 
 -- pairs are never fewer
 pub steps-longer : (old new : Runs) (had bs : List ℕ) (number : ℕ) → RunSteps old new had bs number number 0 → length old.pairs.items ≤ length new.pairs.items

@@ -1,16 +1,13 @@
 -- One step of the search.
-use Rattle.std.proofs.Common.{◌≡◌, ℕ, suc, true, false, cond, nat_lt, List, ◌∷◌, Some, None, ap, ◌∙◌}
-use Rattle.std.proofs.lemmas.Bool.{cond-true, cond-false}
-use Rattle.cm_scan.specs.inlines.Delimiters.{Run}
+use Rattle.cm_inline.proofs.lemmas.Words.{◌≡◌, ℕ, suc, true, false, List, ◌∷◌, Some, None, cond-true, Run, rules}
+use Rattle.std.proofs.Common.{nat_lt}
 use Rattle.cm_inline.specs.steps.Entries.{Entry, answers}
 use Rattle.cm_inline.specs.steps.Searching.{find_opener, looks_for}
-use Rattle.std.proofs.Common.{rules}
 
 -- a step: the entry is below the bottom, or opens, or is passed
 pub step-low : (c : Run) (b : ℕ) (e : Entry) (es : List Entry) → nat_lt e.place b ≡ true → (find_opener c b (e ∷ es) ≡ None) × (looks_for c b (e ∷ es) ≡ 0)
 unfolding find_opener looks_for
-step-low c b e es h =
-    (cond-true (nat_lt e.place b) None (cond (answers c e) (Some e) (find_opener c b es)) h, cond-true (nat_lt e.place b) 0 (suc (cond (answers c e) 0 (looks_for c b es))) h)
+step-low c b e es h = search (rules, cond-true)
 
 pub step-finds : (c : Run) (b : ℕ) (e : Entry) (es : List Entry) → nat_lt e.place b ≡ false → answers c e ≡ true → (find_opener c b (e ∷ es) ≡ Some e) × (looks_for c b (e ∷ es) ≡ 1)
 unfolding find_opener looks_for

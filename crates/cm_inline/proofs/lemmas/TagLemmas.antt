@@ -1,18 +1,15 @@
 -- The ends and the starts of pairs at a run, one after another.
-use Rattle.std.proofs.Common.{◌≡◌, ℕ, zero, suc, ◌+◌, ◌-◌, ◌<◌, ◌≤◌, ◌==◌, List, [], ◌∷◌, ◌++◌, length, take, drop, get_or, reverse, refl, sym, ap, subst, ◌∙◌, arith, append_assoc}
-use Rattle.std.proofs.lemmas.Bool.{cond-true, cond-false, eq-eqb, ne_eqb}
-use Rattle.std.proofs.lemmas.List.{drop_more, drop_all, length-take, length-take-le, length-reverse, get_or-take, reverse-append, take-append-drop, get_or-map}
+use Rattle.cm_inline.proofs.lemmas.Words.{◌≡◌, ℕ, zero, suc, ◌+◌, ◌-◌, ◌<◌, ◌≤◌, ◌==◌, List, [], ◌∷◌, ◌++◌, length, take, drop, get_or, reverse, refl, sym, ap, subst}
+use Rattle.cm_inline.proofs.lemmas.Words.{◌∙◌, arith, append_assoc, cond-false, ne_eqb, drop_more, drop_all, length-take, length-take-le, length-reverse, get_or-take}
+use Rattle.cm_inline.proofs.lemmas.Words.{reverse-append, take-append-drop, get_or-map, Emphasis, rules, nat_tests}
 use Rattle.cm_inline.specs.declared.runs.Pair as made
 use Rattle.cm_inline.specs.steps.pairing.Events.{Event, Start, End}
 use Rattle.cm_inline.specs.steps.pairing.Readings.{Tags, Page, page, mode_of, write_all, start_html, end_html}
-use Rattle.cm_inline.specs.declared.runs.Emphasis.{Emphasis}
-use Rattle.cm_inline.specs.declared.runs.Emphasis.TheVariants.{Emph, Strong, Strike}
 use Rattle.cm_inline.specs.steps.pairing.Parts.{Pair, chain, starts, ends, ends_between}
 use Rattle.cm_inline.specs.steps.pairing.States.{no_pair}
 use Rattle.cm_inline.specs.steps.Runs.{tag_in, pair_in, pairs_in}
 use Rattle.cm_inline.specs.steps.Writing.{ComeBefore}
 use Rattle.cm_inline.proofs.lemmas.PartLemmas.{chain-goes}
-use Rattle.std.proofs.Common.{rules}
 
 pub length-pairs : (ps : List made.Pair) → length (pairs_in ps) ≡ length ps
 length-pairs [] = refl
@@ -92,14 +89,12 @@ unfolding write_all
 end-written html new emphasis events more whole e f h = ap (λ t. write_all (page t Tags) more) e ∙ sym (ap (write_all (page html Tags)) f) ∙ h
 
 mode-tags : (emphasis : Emphasis) → mode_of (tag_in emphasis) ≡ Tags
-mode-tags Emph = refl
-mode-tags _ = refl
+mode-tags emphasis = grind (arith, nat_tests)
 
 pub start-written : (html new : List ℕ) (emphasis : Emphasis) (events more : List Event) (whole : Page) → new ≡ html ++ start_html (tag_in emphasis) → events ≡ Start (tag_in emphasis) ∷ more
     → write_all (page html Tags) events ≡ whole → write_all (page new Tags) more ≡ whole
 unfolding write_all
-start-written html new emphasis events more whole e f h =
-    ap (λ t. write_all (page t Tags) more) e ∙ ap (λ m. write_all (page (html ++ start_html (tag_in emphasis)) m) more) (sym (mode-tags emphasis)) ∙ sym (ap (write_all (page html Tags)) f) ∙ h
+start-written html new emphasis events more whole e f h = search (rules, mode-tags)
 
 pub none-written : (html : List ℕ) (events : List Event) (whole : Page) → events ≡ [] → write_all (page html Tags) events ≡ whole → whole ≡ page html Tags
 unfolding write_all

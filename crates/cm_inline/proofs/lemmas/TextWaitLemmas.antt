@@ -1,35 +1,24 @@
 -- Marks are written one after another, while the text before the next one waits.
-use Rattle.std.proofs.Common.{◌≡◌, ℕ, ◌+◌, ◌<◌, ◌≤◌, ◌==◌, ◌&&◌, true, false, List, [], ◌∷◌, ◌++◌, length, drop, get_or, refl, sym, ap, subst, ◌∙◌, arith, append_assoc}
-use Rattle.std.specs.Prelude.{replicate, Result, Ok, Err, IfOk}
-use Rattle.std.specs.List.{slice_range, list_all}
-use Rattle.std.specs.Str.{IsCharBoundary}
-use Rattle.std.proofs.lemmas.Bool.{and_parts, eqb-true, cond-true}
-use Rattle.std.proofs.lemmas.List.{append-nil, drop_more, drop_all, get_or_read, get_or_default, get_or-map}
-use Rattle.cm_tree.specs.Definitions.{Targets}
-use Rattle.cm_html.specs.Escape.{escape}
-use Rattle.cm_scan.specs.spans.CodeSpans.{one_line}
-use Rattle.cm_inline.specs.declared.brackets.Reader.{Reader}
-use Rattle.cm_inline.specs.declared.marks.Kind.{Kind}
+use Rattle.cm_inline.proofs.lemmas.Words.{◌≡◌, ℕ, ◌+◌, ◌<◌, ◌≤◌, true, false, List, [], ◌∷◌, ◌++◌, length, drop, get_or, sym, ap, subst, ◌∙◌, arith, append_assoc}
+use Rattle.cm_inline.proofs.lemmas.Words.{Result, slice_range, IsCharBoundary, and_parts, eqb-true, drop_more, drop_all, get_or_read, get_or-map, Targets, escape}
+use Rattle.cm_inline.proofs.lemmas.Words.{one_line, Reader, Mark, rules, nat_tests}
+use Rattle.std.specs.Prelude.{IfOk}
+use Rattle.std.proofs.lemmas.List.{append-nil, get_or_default}
 use Rattle.cm_inline.specs.declared.marks.Kind.TheVariants as kinds
-use Rattle.cm_inline.specs.declared.marks.Mark.{Mark}
 use Rattle.cm_inline.specs.declared.marks.Place.{Place}
 use Rattle.cm_inline.specs.declared.runs.Run as held
-use Rattle.cm_inline.specs.steps.pairing.Events.{Event, Rest}
-use Rattle.cm_inline.specs.steps.pairing.Parts.{starts, run_events, part_events, events_of}
+use Rattle.cm_inline.specs.steps.pairing.Parts.{events_of}
 use Rattle.cm_inline.specs.steps.pairing.Parts as parts
-use Rattle.cm_inline.specs.steps.pairing.States.{no_run, run_at}
-use Rattle.cm_inline.specs.steps.pairing.Readings.{end_html, Mode, Tags, Alternative, Page, page, write_all}
-use Rattle.cm_inline.specs.steps.Marks.{texts, stays_text, tag_numbered, part_of_kind, events_in, IsUnmarked, IsOfKind, AreLaid, IsSettled}
-use Rattle.cm_inline.specs.steps.Runs.{byte_of, run_of, paired_run, runs_in, pairs_in}
+use Rattle.cm_inline.specs.steps.pairing.Readings.{Mode, Tags, Alternative, Page, page, write_all}
+use Rattle.cm_inline.specs.steps.Marks.{events_in, IsUnmarked, AreLaid, IsSettled}
+use Rattle.cm_inline.specs.steps.Runs.{runs_in, pairs_in}
 use Rattle.cm_inline.specs.steps.Standalone.{IsBetween}
-use Rattle.cm_inline.specs.steps.Writing.{Adds, no_mark, mark_numbered, mark_events, events_from, events_after, events_at, is_unpaired, is_text, is_end_of, mode_after, IsMarkIn, GoesOn, TextWaits, IsImageAt, IsWrittenTo}
+use Rattle.cm_inline.specs.steps.Writing.{Adds, no_mark, mark_numbered, mark_events, events_from, events_after, events_at, is_text, is_end_of, mode_after, IsMarkIn, GoesOn, TextWaits, IsImageAt, IsWrittenTo}
 use Rattle.cm_inline.proofs.lemmas.HtmlLemmas.{run-html, text-html}
 use Rattle.cm_inline.proofs.lemmas.LaidLemmas.{events-next, events-last, settled-mark, settled-behind}
 use Rattle.cm_inline.proofs.lemmas.TagLemmas.{ends-last, starts-none}
 use Rattle.cm_inline.proofs.lemmas.WriteLemmas.{write-append, write-from, mode-same, texts-tags, texts-alternative}
 use Rattle.cm_inline.proofs.lemmas.SliceLemmas.{slice-both, slice-none}
-use Rattle.std.proofs.Common.{rules}
-use Rattle.std.proofs.lemmas.Bool.Decides.{nat_tests}
 
 abbrev mode : Page → Mode
 mode p = p.mode
@@ -66,14 +55,12 @@ waits-between source targets reader old html next h w = search (rules, laid-next
 -- a mark that is text waits too
 pub waits-text : (source : List ℕ) (targets : Targets) (reader : Reader) (old html : List ℕ) (next : Place) → next.mark < length reader.marks.items → IsSettled false source targets reader → TextWaits source targets reader old html next
     → is_text reader.runs.runs.items (mark_numbered reader.marks.items next.mark).kind ≡ true → TextWaits source targets reader old html (record { mark = next.mark + 1; from = next.from })
-waits-text source targets reader old html next h settled w is =
-    grind (arith, nat_tests, laid-next, waits-between, settled-mark, waits-mark, write-append, text-mark, append_assoc, slice-both)
+waits-text source targets reader old html next h settled w is = grind (arith, nat_tests, laid-next, waits-between, settled-mark, waits-mark, write-append, text-mark, append_assoc, slice-both)
 
 -- no alternative text is left open
 pub waits-mode : (source : List ℕ) (targets : Targets) (reader : Reader) (old html new : List ℕ) (next : Place) → next.mark < length reader.marks.items → IsSettled false source targets reader → TextWaits source targets reader old html next
     → new ≡ html ++ slice_range source next.from (mark_numbered reader.marks.items next.mark).at → (write_all (page new Tags) (events_at source targets reader next.mark)).mode ≡ Tags
-waits-mode source targets reader old html new next h settled w e =
-    ap (λ t. mode (write_all (page t Tags) (events_at source targets reader next.mark))) e ∙ sym (ap (λ p. mode p) (waits-mark source targets reader old html next h w)) ∙ mode-same old [] Tags (events_in source targets reader) ∙ settled.ends
+waits-mode source targets reader old html new next h settled w e = search (rules, waits-mark, mode-same)
 
 -- another mark is written, with the text before it
 pub waits-on : (source : List ℕ) (targets : Targets) (reader : Reader) (old html before new : List ℕ) (next further : Place) → next.mark < length reader.marks.items → TextWaits source targets reader old html next
@@ -116,8 +103,7 @@ pub image-ends : {E : Type 0} (source : List ℕ) (targets : Targets) (reader : 
     → write_all (page old Tags) (mark_events source targets reader mark) ≡ page html (mode_after reader.links.items mark.kind) → mode_after reader.links.items mark.kind ≡ Alternative number → IsImageAt source targets reader html at number
     → IfOk r (λ next. (targets : Targets) → IsImageAt source targets reader html at number → GoesOn source targets reader (page html (Alternative number)) (events_after source targets reader at) new next)
     → IfOk r (λ next. GoesOn source targets reader (page old Tags) (events_at source targets reader at) new next)
-image-ends source targets reader old html new at number mark (Ok next) is e image known goes = image-goes-on source targets reader old html new at number mark next is e image (goes targets known)
-image-ends source targets reader old html new at number mark (Err e) is f image known goes = tt
+image-ends source targets reader old html new at number mark r is f image known goes = grind (arith, nat_tests, image-goes-on)
 
 pub mark-goes-on : (source : List ℕ) (targets : Targets) (reader : Reader) (old html : List ℕ) (at : ℕ) (mark : Mark) → IsSettled false source targets reader → at < length reader.marks.items → mark ≡ mark_numbered reader.marks.items at
     → write_all (page old Tags) (mark_events source targets reader mark) ≡ page html (mode_after reader.links.items mark.kind) → mode_after reader.links.items mark.kind ≡ Tags
@@ -128,8 +114,7 @@ mark-goes-on source targets reader old html at mark settled h is e tags = search
 
 pub alternative-first : (source : List ℕ) (targets : Targets) (reader : Reader) (html : List ℕ) (start link : ℕ) (mark : Mark) → mark ≡ mark_numbered reader.marks.items start → IsImageAt source targets reader html start link
     → IsWrittenTo source targets reader html html start link mark.end (start + 1)
-alternative-first source targets reader html start link mark is image =
-    subst (λ (m : Mark). IsWrittenTo source targets reader html html start link m.end (start + 1)) (sym is) (record { laid = settled-behind false source targets reader start image.within image.settled; same = refl })
+alternative-first source targets reader html start link mark is image = search (rules, settled-behind)
 
 -- the text up to the next mark
 alternative-text : (source : List ℕ) (targets : Targets) (reader : Reader) (old html before : List ℕ) (start link from at : ℕ) → at < length reader.marks.items → IsWrittenTo source targets reader old html start link from at

@@ -1,13 +1,11 @@
 -- What a search, a pair, and a run that is passed do to the runs that wait, and to the looks.
-use Rattle.std.proofs.Common.{◌≡◌, ◌⊎◌, inl, inr, ℕ, zero, ◌+◌, ◌<◌, ◌≤◌, Bool, true, false, cond, nat_le, List, [], ◌∷◌, ◌++◌, length, reverse, take, get_or, set, Some, None, refl, sym, ap, subst, ◌∙◌, arith}
+use Rattle.cm_inline.proofs.lemmas.Words.{◌≡◌, ℕ, zero, ◌+◌, ◌<◌, ◌≤◌, Bool, true, false, cond, nat_le, List, [], ◌∷◌, ◌++◌, length, reverse, take, get_or, set, Some}
+use Rattle.cm_inline.proofs.lemmas.Words.{None, refl, sym, ap, subst, ◌∙◌, arith, get_or-set_same, get_or-set_other, get_or-take, length-set, length-take}
+use Rattle.cm_inline.proofs.lemmas.Words.{sum_by-append, sum_by-cons, Run, delimiters_match, Item, Delimiters, nearest_opener, used, up_to_pair, opened_at, rules}
 use Rattle.std.proofs.lemmas.Bool.{leb-false}
-use Rattle.std.proofs.lemmas.List.{get_or-set_same, get_or-set_other, get_or-take, length-set, length-take}
 use Rattle.std.proofs.Math.Seq.{take-set-lt}
-use Rattle.std.proofs.lemmas.List.Sums.{sum_by-append, sum_by-cons, sum_by-set}
-use Rattle.cm_scan.specs.inlines.Delimiters.{Run, delimiters_match}
-use Rattle.cm_scan.specs.inlines.Pairing.{Item, Delimiters, nearest_opener, used}
-use Rattle.cm_scan.specs.inlines.OnePass.{up_to_pair}
-use Rattle.cm_scan.proofs.lemmas.inlines.PairingLemmas.{opened_at, used-some}
+use Rattle.std.proofs.lemmas.List.Sums.{sum_by-set}
+use Rattle.cm_scan.proofs.lemmas.inlines.PairingLemmas.{used-some}
 use Rattle.cm_inline.specs.steps.Entries.{Entry, Listed, answers, above, reserve, Below, Falling}
 use Rattle.cm_inline.specs.steps.Searching.{kind, IsMarked, find_opener, looks_for, AreSound, characters}
 use Rattle.cm_inline.specs.steps.Openers.{spent}
@@ -22,7 +20,6 @@ use Rattle.cm_inline.specs.steps.pairing.States.{IsReady}
 use Rattle.cm_inline.specs.steps.pairing.WaitingOpeners.{WaitAsOpeners}
 use Rattle.cm_inline.proofs.lemmas.ReadingLemmas.{reads-rest, reads-empty}
 use Rattle.cm_inline.proofs.lemmas.StackLemmas.{Found, stacked-found, stacked-more, stacked-push, found-nearest, none-nearest, pair_events, pair-stacked, pair-items}
-use Rattle.std.proofs.Common.{rules}
 
 abbrev pub with_looks : Listed → ℕ → Listed
 with_looks l n = record { entries = l.entries; looks = l.looks + n; next = l.next }
@@ -187,8 +184,7 @@ waits-opener fs before e l bs w h at = (
 )
 
 pub waits-others : (fs gs : List Event) (before more : List Item) (l : Listed) (bs : List ℕ) → WaitAsOpeners fs before l bs → StandFor gs (reverse more) → NoneOpens more → WaitAsOpeners (fs ++ gs) (more ++ before) l bs
-waits-others fs gs before more l bs w g n =
-    record { stacked = stacked-more l.entries fs gs before more w.stacked g n; falling = w.falling; under = w.under; size = w.size; low = w.low; sound = w.sound }
+waits-others fs gs before more l bs w g n = search (rules, stacked-more)
 
 waits-next : (fs : List Event) (before : List Item) (l : Listed) (bs : List ℕ) → WaitAsOpeners fs before l bs → WaitAsOpeners fs before (passed_by l l.entries) bs
 waits-next fs before l bs w = search (rules, below-more)

@@ -1,33 +1,24 @@
 -- How a source is read from one place to the next.
-use Rattle.std.proofs.Common.{◌≡◌, ℕ, zero, ◌+◌, ◌-◌, ◌^◌, ◌<◌, ◌≤◌, Bool, true, false, List, [], ◌∷◌, ◌++◌, length, take, drop, get_or, reverse, Some, refl, sym, ap, subst, ◌∙◌, arith}
-use Rattle.std.specs.Prelude.{nat_lt, if◌then◌else◌}
-use Rattle.std.specs.List.{slice_range}
-use Rattle.std.proofs.lemmas.Bool.Decides.{nat_tests}
-use Rattle.std.proofs.lemmas.List.{reverse-append, reverse-reverse, drop_more, append-nil, drop_all}
+use Rattle.cm_inline.proofs.lemmas.Words.{◌≡◌, ℕ, zero, ◌+◌, ◌-◌, ◌^◌, ◌<◌, ◌≤◌, true, false, List, [], ◌∷◌, ◌++◌, length, take, drop, get_or, reverse, Some, refl}
+use Rattle.cm_inline.proofs.lemmas.Words.{sym, ap, subst, ◌∙◌, arith, nat_lt, slice_range, nat_tests, reverse-append, reverse-reverse, drop_more, drop_all, Rules}
+use Rattle.cm_inline.proofs.lemmas.Words.{Targets, inlines_depth, emphasis_of, one_by_one, in_pieces, Atom, Defined, Bracketed, defined_in, with_item, add_atom}
+use Rattle.cm_inline.proofs.lemmas.Words.{item_step, items_after, inlines_of, depth_of_leaf, nests_past, plain_front_is_text, InlineFault, InlinesTooDeep, rules}
+use Rattle.std.proofs.lemmas.List.{append-nil}
 use Rattle.std.proofs.lemmas.List.Concat.{flat_map-append}
-use Rattle.cm_text.specs.Rules.{Rules}
-use Rattle.cm_tree.specs.Definitions.{Targets}
-use Rattle.cm_tree.specs.Depth.{inlines_depth}
 use Rattle.cm_scan.specs.inlines.Pairing as pairing
-use Rattle.cm_scan.specs.inlines.Pairing.{emphasis_of}
-use Rattle.cm_scan.specs.inlines.Pieces.{one_by_one, pieces_of, in_pieces}
-use Rattle.cm_scan.specs.inlines.Atoms.{Atom, Plain, Whole, Delimiter, OpenBracket, CloseBracket}
-use Rattle.cm_scan.specs.inlines.Brackets.{Defined, Bracketed, defined_in}
-use Rattle.cm_scan.specs.inlines.Inlines.{with_item, add_atom, item_step, items_after, inlines_of, depth_of_leaf, nests_past}
+use Rattle.cm_scan.specs.inlines.Pieces.{pieces_of}
 use Rattle.cm_scan.specs.inlines.Inlines as inlines
-use Rattle.cm_scan.proofs.lemmas.inlines.ReadingSteps.{reading_goes_on, bracket_step, plain_front_is_text}
+use Rattle.cm_scan.proofs.lemmas.inlines.ReadingSteps.{reading_goes_on, bracket_step}
 use Rattle.cm_scan.proofs.lemmas.inlines.PairingInPieces.{texts_in_pieces}
 use Rattle.cm_scan.proofs.lemmas.inlines.ReadingInPieces.{reading_in_pieces}
 use Rattle.cm_inline.specs.Reading.{Refused}
-use Rattle.cm_inline.specs.declared.fault.InlineFault.{InlineFault}
-use Rattle.cm_inline.specs.declared.fault.InlineFault.TheVariants.{InlinesTooDeep, NoMemory, SourceTooLong}
+use Rattle.cm_inline.specs.declared.fault.InlineFault.TheVariants.{SourceTooLong}
 use Rattle.cm_inline.specs.steps.Brackets.{closed_at}
 use Rattle.cm_inline.specs.steps.Depths.{items_depth}
-use Rattle.cm_inline.specs.steps.Reads.{Stands, atom_in, item_for, IsAtom, IsTextTo, ahead, text_items}
+use Rattle.cm_inline.specs.steps.Reads.{Stands, item_for, IsAtom, IsTextTo, ahead, text_items}
 use Rattle.cm_inline.proofs.lemmas.DeeperLemmas.{emphasis-deeper, after-deeper}
 use Rattle.cm_inline.proofs.lemmas.PairDepthLemmas.{reverse-depth}
 use Rattle.cm_inline.proofs.lemmas.SliceLemmas.{slice-front, before-later, before-one}
-use Rattle.std.proofs.Common.{rules}
 
 -- the items from a place on, after items that have the last first
 abbrev pub items_from : Rules → Defined → List ℕ → ℕ → List pairing.Item → List pairing.Item
@@ -62,8 +53,7 @@ ahead-step rules defined source so_far more at end within further gives =
 -- an atom that puts one item
 pub adds-item : (rules : Rules) (defined : Defined) (items : List pairing.Item) (a : Atom) (rest : List ℕ) (i : pairing.Item) → item_for a rest ≡ Some i → add_atom rules defined items a rest ≡ with_item items i rest
 unfolding add_atom
-adds-item rules defined items CloseBracket rest i e = absurd (cc e)
-adds-item rules defined items _ rest i e = ap (λ i. with_item items i rest) (cc e)
+adds-item rules defined items a rest i e = grind (arith, nat_tests)
 
 pub ahead-atom : (rules : Rules) (defined : Defined) (source : List ℕ) (so_far : List pairing.Item) (at : ℕ) (item : pairing.Item) (end : ℕ) → at < length source → IsAtom rules source at item end
     → ahead rules defined source (so_far ++ item ∷ []) end ≡ ahead rules defined source so_far at
@@ -76,13 +66,11 @@ bracket-at rules defined source so_far at stands = grind (arith, nat_tests, brac
 pub ahead-bracket : (rules : Rules) (defined : Defined) (source : List ℕ) (so_far more : List pairing.Item) (at end : ℕ) → Stands source at 93 → at < end
     → closed_at rules defined source so_far at ≡ record { items = reverse more; rest = drop end source }
     → ahead rules defined source more end ≡ ahead rules defined source so_far at
-ahead-bracket rules defined source so_far more at end stands further closed =
-    ahead-step rules defined source so_far more at end stands.within further (bracket-at rules defined source so_far at stands ∙ closed)
+ahead-bracket rules defined source so_far more at end stands further closed = search (rules, ahead-step, bracket-at)
 
 -- items with one more, in pieces
 pieces-more : (source : List ℕ) (so_far : List pairing.Item) (item : pairing.Item) → in_pieces (so_far ++ item ∷ []) ≡ in_pieces so_far ++ pieces_of item
-pieces-more source so_far item =
-    flat_map-append pieces_of so_far (item ∷ []) ∙ ap (λ t. in_pieces so_far ++ t) (append-nil (pieces_of item))
+pieces-more source so_far item = search (rules, flat_map-append, append-nil)
 
 pieces-pieces : (text : List ℕ) → in_pieces (one_by_one text) ≡ one_by_one text
 pieces-pieces [] = refl
@@ -158,9 +146,7 @@ nests-ahead rules defined limit source items same deep = grind (arith, nat_tests
 -- a fault of the reading
 pub refused : (told : InlineFault) (rules : Rules) (targets : Targets) (limit : ℕ) (source : List ℕ) → (told ≡ InlinesTooDeep → nests_past rules (defined_in targets) limit source ≡ true)
     → (told ≡ SourceTooLong → 2 ^ 32 ≤ length source) → Refused told rules targets limit source
-refused InlinesTooDeep rules targets limit source deep long = deep refl
-refused NoMemory rules targets limit source deep long = tt
-refused SourceTooLong rules targets limit source deep long = long refl
+refused told rules targets limit source deep long = grind (arith, nat_tests)
 
 pub within-limit : (rules : Rules) (defined : Defined) (limit : ℕ) (source : List ℕ) (items : List pairing.Item) → in_pieces items ≡ in_pieces (inlines.items_of rules defined source) → inlines_depth (emphasis_of items) ≤ limit
     → nests_past rules defined limit source ≡ false

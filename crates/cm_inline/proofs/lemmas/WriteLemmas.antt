@@ -1,21 +1,13 @@
 -- What marks write as HTML, one after another.
-use Rattle.std.proofs.Common.{◌≡◌, ℕ, ◌==◌, cond, Bool, true, false, List, [], ◌∷◌, ◌++◌, refl, sym, ap, ◌∙◌, append_assoc}
-use Rattle.std.specs.Prelude.{replicate}
-use Rattle.std.specs.List.{list_all}
-use Rattle.std.proofs.lemmas.Bool.{and_parts, eqb-true}
+use Rattle.cm_inline.proofs.lemmas.Words.{◌≡◌, ℕ, ◌==◌, cond, true, false, List, [], ◌∷◌, ◌++◌, refl, sym, ap, ◌∙◌, append_assoc, list_all, and_parts, eqb-true}
+use Rattle.cm_inline.proofs.lemmas.Words.{fold_out-Inline, outs-Soft, escape_byte, escape, Rendered, inline_step, rendered, one_line, rules, nat_tests, arith}
 use Rattle.std.proofs.lemmas.List.{append-nil}
-use Rattle.cm_tree.specs.declared.tree.Inline.TheFolds.{fold_out-Inline}
 use Rattle.cm_tree.specs.declared.tree.Inline.TheVariants as inlines
-use Rattle.cm_tree.specs.declared.tree.Inline.TheViews.{outs-Soft}
-use Rattle.cm_html.specs.Escape.{escape_byte, escape}
-use Rattle.cm_html.specs.Html.{Rendered, inline_step, rendered}
-use Rattle.cm_scan.specs.spans.CodeSpans.{one_line}
-use Rattle.cm_inline.specs.steps.pairing.Events.{Event, Text, Rest, Whole, Start, End}
+use Rattle.cm_inline.specs.steps.pairing.Events.{Event}
 use Rattle.cm_inline.specs.steps.pairing.Parts.{Pair, PairedRun, events_of}
-use Rattle.cm_inline.specs.steps.pairing.Readings.{start_html, end_html, Mode, Tags, Alternative, is_number, mode_of, Page, page, write, write_all}
+use Rattle.cm_inline.specs.steps.pairing.Readings.{Mode, Tags, Alternative, Page, page, write, write_all}
 use Rattle.cm_inline.specs.steps.Marks.{text_event, texts, stays_text}
 use Rattle.cm_inline.proofs.lemmas.HtmlLemmas.{byte-html}
-use Rattle.std.proofs.Common.{rules}
 
 pub write-append : (p : Page) (fs gs : List Event) → write_all p (fs ++ gs) ≡ write_all (write_all p fs) gs
 unfolding write_all
@@ -24,21 +16,7 @@ write-append p (f ∷ fs) gs = write-append (write p.html p.mode f) fs gs
 
 -- what is written doesn't depend on what was written before
 write-one : (f : Event) (m : Mode) (a b : List ℕ) → write (a ++ b) m f ≡ page (a ++ (write b m f).html) (write b m f).mode
-write-one (Text t) Tags a b = ap (λ h. page h Tags) (append_assoc a b (escape t))
-write-one (Text t) (Alternative n) a b = ap (λ h. page h (Alternative n)) (append_assoc a b (escape t))
-write-one (Rest n r) Tags a b = ap (λ h. page h Tags) (append_assoc a b (escape (replicate r.left r.character)))
-write-one (Rest n r) (Alternative k) a b = ap (λ h. page h (Alternative k)) (append_assoc a b (escape (replicate r.left r.character)))
-write-one (Whole i) Tags a b = ap (λ h. page h Tags) (append_assoc a b (rendered i).html)
-write-one (Whole i) (Alternative n) a b = ap (λ h. page h (Alternative n)) (append_assoc a b (escape (rendered i).plain))
-write-one (Start tag) Tags a b = ap (λ h. page h (mode_of tag)) (append_assoc a b (start_html tag))
-write-one (Start tag) (Alternative n) a b = refl
-write-one (End tag) Tags a b = ap (λ h. page h Tags) (append_assoc a b (end_html tag))
-write-one (End tag) (Alternative n) a b = go (is_number n tag)
-  where
-    go : (c : Bool) → cond c (page ((a ++ b) ++ end_html tag) Tags) (page (a ++ b) (Alternative n))
-        ≡ page (a ++ (cond c (page (b ++ end_html tag) Tags) (page b (Alternative n))).html) (cond c (page (b ++ end_html tag) Tags) (page b (Alternative n))).mode
-    go true = ap (λ h. page h Tags) (append_assoc a b (end_html tag))
-    go false = refl
+write-one f m a b = grind (arith, nat_tests, append_assoc)
 
 pub write-after : (a b : List ℕ) (m : Mode) (fs : List Event) → write_all (page (a ++ b) m) fs ≡ page (a ++ (write_all (page b m) fs).html) (write_all (page b m) fs).mode
 unfolding write_all
@@ -77,6 +55,4 @@ byte-alternative html n b = search (rules, soft-plain, append-nil)
 pub texts-alternative : (runs : List PairedRun) (pairs : List Pair) (text html : List ℕ) (n : ℕ) → write_all (page html (Alternative n)) (events_of runs pairs (texts text)) ≡ page (html ++ escape (one_line text)) (Alternative n)
 unfolding write_all events_of
 texts-alternative runs pairs [] html n = ap (λ t. page t (Alternative n)) (sym (append-nil html))
-texts-alternative runs pairs (b ∷ bs) html n =
-    ap (λ p. write_all p (events_of runs pairs (texts bs))) (byte-alternative html n b) ∙ texts-alternative runs pairs bs (html ++ escape_byte (cond (b == 10) 32 b)) n
-    ∙ ap (λ t. page t (Alternative n)) (append_assoc html (escape_byte (cond (b == 10) 32 b)) (escape (one_line bs)))
+texts-alternative runs pairs (b ∷ bs) html n = search (rules, byte-alternative, append_assoc, (texts-alternative runs pairs bs (html ++ escape_byte (cond (b == 10) 32 b)) n))

@@ -1,6 +1,5 @@
-use Rattle.std.proofs.Common.{◌≡◌, ℕ, List, get_or, sym, ap, subst, ◌∙◌, arith}
+use Rattle.cm_inline.proofs.lemmas.Words.{◌≡◌, ℕ, List, get_or, sym, ap, subst, ◌∙◌, arith, is_markup}
 use Rattle.cm_inline.specs.declared.atoms.Atom.{Atom}
-use Rattle.cm_scan.specs.inlines.Atoms.{is_markup}
 use Rattle.cm_inline.specs.steps.Reads.{Stands, Begins}
 use Rattle.cm_inline.proofs.lemmas.AtomLemmas.{feed-is, opener-is, lone-byte}
 use Rattle.cm_inline.proofs.atoms.read_atom.Goals.{in-96+in_ok-read-in-96, in-60, in-92, in-38, in-10, in-32, in-33, in-91, in-42, in-95, in-126, in_default}

@@ -1,8 +1,4 @@
-use Rattle.std.proofs.Common.{◌≡◌, length, get_or, sym, ap, subst, ◌+◌, ◌∙◌, arith}
-use Rattle.std.specs.List.{slice_range}
-use Rattle.cm_text.specs.Search.{next_place, is_marked}
-use Rattle.cm_scan.specs.Words.{trim_end_spaces}
-use Rattle.cm_scan.proofs.lemmas.spans.BacktickStrings.{not-same}
+use Rattle.cm_inline.proofs.lemmas.Words.{◌≡◌, length, get_or, sym, ap, subst, ◌+◌, ◌∙◌, arith, slice_range, next_place, is_marked, trim_end_spaces, not-same}
 use Rattle.cm_inline.specs.steps.Reads.{IsTextTo}
 use Rattle.cm_inline.proofs.lemmas.TextLemmas.{text-to-markup, text-to-spaces}
 use Rattle.cm_inline.proofs.atoms.text_end.Goals as goal

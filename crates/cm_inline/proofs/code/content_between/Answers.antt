@@ -1,7 +1,5 @@
-use Rattle.std.proofs.Common.{◌+◌, ◌-◌, ◌≤◌, length, get_or, sym, ap, ◌∙◌, arith}
-use Rattle.std.specs.List.{slice_range}
-use Rattle.std.proofs.lemmas.Str.{IsCharBoundary-before_ascii, IsCharBoundary-after_ascii}
-use Rattle.cm_scan.specs.spans.CodeSpans.{one_line, stripped}
+use Rattle.cm_inline.proofs.lemmas.Words.{◌+◌, ◌-◌, ◌≤◌, length, get_or, sym, ap, ◌∙◌, arith, slice_range, IsCharBoundary-before_ascii, IsCharBoundary-after_ascii}
+use Rattle.cm_inline.proofs.lemmas.Words.{one_line, stripped}
 use Rattle.cm_inline.proofs.lemmas.CodeLemmas.{space-ascii, inner-is, part-length, part-first, part-last, stripped-short, stripped-first, stripped-last, stripped-spaces, stripped-cut}
 use Rattle.cm_inline.proofs.code.content_between.Goals as goal
 use Rattle.cm_inline.proofs.code.content_between.Goals.{then-len-lt2-via-then-len-lt2, then-len-lt2-via-else-len-lt2+then-not-is_space, then-len-lt2-via-else-len-lt2+else-not-is_space+then-not-is_space-2}

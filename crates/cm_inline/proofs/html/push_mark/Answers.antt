@@ -1,4 +1,4 @@
-use Rattle.std.proofs.Common.{sym, subst}
+use Rattle.cm_inline.proofs.lemmas.Words.{sym, subst}
 use Rattle.cm_inline.specs.steps.Writing.{IsMarkIn}
 use Rattle.cm_inline.proofs.lemmas.LaidLemmas.{settled-mark}
 use Rattle.cm_inline.proofs.lemmas.MarkLemmas.{linked}

@@ -1,6 +1,4 @@
-use Rattle.std.proofs.Common.{◌<◌, ◌≤◌, ◌++◌, length, sym, ap, ◌∙◌, arith}
-use Rattle.std.specs.List.{slice_range}
-use Rattle.cm_inline.specs.declared.marks.Mark.{Mark}
+use Rattle.cm_inline.proofs.lemmas.Words.{◌<◌, ◌≤◌, ◌++◌, length, sym, ap, ◌∙◌, arith, slice_range, Mark}
 use Rattle.cm_inline.specs.steps.Writing.{is_text}
 use Rattle.cm_inline.proofs.lemmas.HtmlLemmas.{on-ok}
 use Rattle.cm_inline.proofs.lemmas.TextWaitLemmas.{mark-among, waits-first, waits-text, waits-mode, waits-on, waits-last}

@@ -1,7 +1,4 @@
-use Rattle.std.proofs.Common.{◌≡◌, ◌++◌, ◌∷◌, [], sym, ap, subst, ◌∙◌, arith}
-use Rattle.std.specs.Prelude.{OnOk}
-use Rattle.cm_html.specs.Escape.{escape}
-use Rattle.cm_scan.specs.spans.CodeSpans.{one_line}
+use Rattle.cm_inline.proofs.lemmas.Words.{◌≡◌, ◌++◌, ◌∷◌, [], sym, ap, subst, ◌∙◌, arith, OnOk, escape, one_line}
 use Rattle.cm_inline.proofs.lemmas.CodeLemmas.{line-feed, line-whole}
 use Rattle.cm_inline.proofs.lemmas.HtmlLemmas.{line-html}
 use Rattle.cm_inline.proofs.html_texts.push_one_line.Goals as goal

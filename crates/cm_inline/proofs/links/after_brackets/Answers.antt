@@ -1,6 +1,4 @@
-use Rattle.std.proofs.Common.{◌≡◌, ◌+◌, sym, subst, ◌∙◌, arith}
-use Rattle.std.specs.Str.{IsCharBoundary}
-use Rattle.cm_scan.proofs.lemmas.spans.AutolinkParts.{next-ascii}
+use Rattle.cm_inline.proofs.lemmas.Words.{◌≡◌, ◌+◌, sym, subst, ◌∙◌, arith, IsCharBoundary, next-ascii}
 use Rattle.cm_inline.proofs.lemmas.LinkLemmas.{next-of, both-brackets, not-both}
 use Rattle.cm_inline.proofs.links.after_brackets.Goals.{else-is_next-via-then-is_next+else-is_next-2, else-is_next-via-else-is_next}
 use Rattle.cm_inline.proofs.links.after_brackets.Goals as goal

@@ -1,8 +1,4 @@
-use Rattle.std.proofs.Common.{drop, Some, None, sym, ap, ◌∙◌}
-use Rattle.std.specs.List.{slice_range}
-use Rattle.cm_scan.specs.spans.Tags.{is_blank_next}
-use Rattle.cm_scan.specs.inlines.Brackets.{closed, end_if_followed}
-use Rattle.cm_scan.proofs.lemmas.links.DefinitionParts.{gap-of}
+use Rattle.cm_inline.proofs.lemmas.Words.{drop, Some, None, sym, ap, ◌∙◌, slice_range, is_blank_next, closed, end_if_followed, gap-of}
 use Rattle.cm_inline.proofs.lemmas.SliceLemmas.{slice-none}
 use Rattle.cm_inline.proofs.lemmas.LinkLemmas.{turned, not-parted, by-title}
 use Rattle.cm_inline.proofs.links.after_destination.Goals as goal

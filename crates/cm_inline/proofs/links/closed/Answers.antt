@@ -1,10 +1,5 @@
-use Rattle.std.proofs.Common.{◌+◌, drop, IsUtf8, sym, ap, subst, ◌∙◌, arith}
-use Rattle.std.specs.List.{slice_range}
-use Rattle.cm_text.specs.Addresses.{is_followed}
-use Rattle.cm_text.specs.Unescaping.{unescape}
-use Rattle.cm_scan.specs.inlines.Brackets.{LinkEnd, end_if_followed}
-use Rattle.cm_scan.proofs.lemmas.links.DefinitionParts.{gap-of}
-use Rattle.cm_scan.proofs.lemmas.spans.AutolinkParts.{next-ascii}
+use Rattle.cm_inline.proofs.lemmas.Words.{◌+◌, drop, sym, ap, subst, ◌∙◌, arith, slice_range, is_followed, unescape, LinkEnd, end_if_followed, gap-of, next-ascii}
+use Rattle.std.proofs.Common.{IsUtf8}
 use Rattle.cm_inline.proofs.lemmas.LinkLemmas.{next-of, not-closed, is-closed, end-followed}
 use Rattle.cm_inline.proofs.links.closed.Goals as goal
 

@@ -1,9 +1,6 @@
-use Rattle.std.proofs.Common.{◌≡◌, ◌+◌, true, false, drop, Some, None, IsUtf8, if◌then◌else◌, sym, ap, subst, ◌∙◌, arith}
-use Rattle.std.specs.Str.{IsCharBoundary}
-use Rattle.cm_scan.specs.Words.{begins_with}
-use Rattle.cm_scan.specs.inlines.Brackets.{closed, after_destination, end_if_followed}
-use Rattle.cm_scan.proofs.lemmas.links.DefinitionParts.{gap-of}
-use Rattle.cm_scan.proofs.lemmas.spans.AutolinkParts.{next-ascii}
+use Rattle.cm_inline.proofs.lemmas.Words.{◌≡◌, ◌+◌, true, false, drop, Some, None, sym, ap, subst, ◌∙◌, arith, IsCharBoundary, begins_with, closed, after_destination}
+use Rattle.cm_inline.proofs.lemmas.Words.{end_if_followed, gap-of, next-ascii}
+use Rattle.std.proofs.Common.{IsUtf8, if◌then◌else◌}
 use Rattle.cm_inline.proofs.lemmas.SliceLemmas.{slice-none}
 use Rattle.cm_inline.proofs.lemmas.LinkLemmas.{next-of, turned, no-inline_end, by-destination, from-by, part-from}
 use Rattle.cm_inline.proofs.links.inline_end.Goals.{then-is_next, else-is_next}

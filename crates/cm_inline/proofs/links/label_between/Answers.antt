@@ -1,4 +1,4 @@
-use Rattle.std.proofs.Common.{◌≡◌, ◌+◌, ◌-◌, ◌<◌, length, ap, ◌∙◌, arith}
+use Rattle.cm_inline.proofs.lemmas.Words.{◌≡◌, ◌+◌, ◌-◌, ◌<◌, length, ap, ◌∙◌, arith}
 use Rattle.cm_inline.specs.steps.Links.{target_by}
 use Rattle.cm_inline.proofs.lemmas.LinkLemmas.{no-label, other-label, this-label}
 use Rattle.cm_inline.proofs.links.label_between.Goals as goal

@@ -1,5 +1,4 @@
-use Rattle.std.proofs.Common.{◌+◌, drop, IfSome, subst}
-use Rattle.std.specs.List.{slice_range}
+use Rattle.cm_inline.proofs.lemmas.Words.{◌+◌, drop, IfSome, subst, slice_range}
 use Rattle.cm_inline.specs.steps.Links.{IsPlaced}
 use Rattle.cm_inline.proofs.lemmas.LinkLemmas.{turned, ends-behind, placed, inline-first, no-inline}
 use Rattle.cm_inline.proofs.links.link_end.Goals as goal

@@ -1,7 +1,5 @@
-use Rattle.std.proofs.Common.{◌≡◌, ◌+◌, ◌≤◌, drop, length, sym, ap, ◌∙◌, arith}
-use Rattle.std.specs.List.{slice_range}
-use Rattle.cm_tree.specs.Definitions.{target_under, target_if_followed}
-use Rattle.cm_scan.specs.inlines.Brackets.{defined_in, target_between, end_if_followed}
+use Rattle.cm_inline.proofs.lemmas.Words.{◌≡◌, ◌≤◌, length, sym, ap, ◌∙◌, arith, slice_range, target_if_followed, defined_in, target_between, end_if_followed}
+use Rattle.cm_tree.specs.Definitions.{target_under}
 use Rattle.cm_inline.specs.steps.Links.{ends_of, leads_to}
 use Rattle.cm_inline.proofs.lemmas.LabelLemmas.{bare_between}
 use Rattle.cm_inline.proofs.lemmas.LinkLemmas.{numbered-end}

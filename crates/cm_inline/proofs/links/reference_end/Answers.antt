@@ -1,6 +1,4 @@
-use Rattle.std.proofs.Common.{◌+◌, drop, refl, sym, ap}
-use Rattle.std.specs.List.{slice_range}
-use Rattle.cm_scan.specs.inlines.Brackets.{defined_in, target_between, end_if_followed}
+use Rattle.cm_inline.proofs.lemmas.Words.{◌+◌, drop, refl, sym, ap, slice_range, defined_in, target_between, end_if_followed}
 use Rattle.cm_inline.proofs.lemmas.LinkLemmas.{turned, by-full, by-between}
 use Rattle.cm_inline.proofs.links.reference_end.Goals as goal
 

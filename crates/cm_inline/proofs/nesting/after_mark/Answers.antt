@@ -1,4 +1,4 @@
-use Rattle.std.proofs.Common.{◌^◌, arith}
+use Rattle.cm_inline.proofs.lemmas.Words.{◌^◌, arith}
 use Rattle.cm_inline.proofs.lemmas.NestingLemmas.{autolink-fits, autolink-level, begin-level, end-level, flat-level}
 use Rattle.cm_inline.proofs.nesting.after_mark.Goals as goal
 

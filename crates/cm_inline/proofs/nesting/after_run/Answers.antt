@@ -1,4 +1,4 @@
-use Rattle.std.proofs.Common.{◌^◌, length, ap, subst, ◌∙◌, sym, arith}
+use Rattle.cm_inline.proofs.lemmas.Words.{◌^◌, length, ap, subst, ◌∙◌, sym, arith}
 use Rattle.cm_inline.specs.steps.pairing.Parts.{starts}
 use Rattle.cm_inline.specs.steps.Nesting.{rise_all, CanRiseAll}
 use Rattle.cm_inline.specs.steps.Runs.{pairs_in}

@@ -1,11 +1,8 @@
-use Rattle.std.proofs.Common.{◌<◌, ◌^◌, length, ap, arith}
+use Rattle.cm_inline.proofs.lemmas.Words.{◌<◌, ◌^◌, length, ap, arith}
 use Rattle.cm_inline.proofs.lemmas.MarkLemmas.{numbered}
-use Rattle.cm_inline.proofs.lemmas.NestingLemmas.{nests-fit, nests-first, nests-at, nests-next, nests-last}
+use Rattle.cm_inline.proofs.lemmas.NestingLemmas.{nests-fit, nests-at, nests-next, nests-last}
 use Rattle.cm_inline.proofs.lemmas.TextWaitLemmas.{mark-among}
 use Rattle.cm_inline.proofs.nesting.deepest.Goals as goal
-
-pub loop-mark-init : goal.loop-mark-init
-loop-mark-init c = λ lines source targets depth n. nests-first lines source targets c.args.reader.now depth n
 
 pub after_mark-level-requires : goal.after_mark-level-requires
 after_mark-level-requires c =

@@ -1,5 +1,4 @@
-use Rattle.std.proofs.Common.{◌≡◌, ◌+◌, get_or, refl, sym, ap, ◌∙◌, arith}
-use Rattle.std.proofs.lemmas.Str.{IsCharBoundary-after_ascii}
+use Rattle.cm_inline.proofs.lemmas.Words.{◌≡◌, ◌+◌, get_or, refl, sym, ap, ◌∙◌, arith, IsCharBoundary-after_ascii}
 use Rattle.cm_inline.proofs.lemmas.PlainLemmas.{text-start, text-further, feed-further, plain-further, plain-feed, all-text}
 use Rattle.cm_inline.proofs.reading.is_all_text.Goals as goal
 

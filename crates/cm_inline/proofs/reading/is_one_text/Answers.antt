@@ -1,8 +1,4 @@
-use Rattle.std.proofs.Common.{◌≡◌, ◌==◌, ◌&&◌, not, false, length, sym, ap, ◌∙◌}
-use Rattle.std.specs.List.{list_any}
-use Rattle.std.proofs.lemmas.Bool.{eqb-true}
-use Rattle.cm_text.specs.Search.{next_place, is_marked}
-use Rattle.cm_scan.specs.Words.{is_empty}
+use Rattle.cm_inline.proofs.lemmas.Words.{◌≡◌, ◌==◌, ◌&&◌, not, false, length, sym, ap, ◌∙◌, list_any, eqb-true, next_place, is_marked, is_empty}
 use Rattle.cm_inline.proofs.lemmas.TextLemmas.{is-empty, is-unmarked, one-text}
 use Rattle.cm_inline.proofs.reading.is_one_text.Goals as goal
 

@@ -1,4 +1,4 @@
-use Rattle.std.proofs.Common.{arith}
+use Rattle.cm_inline.proofs.lemmas.Words.{arith}
 use Rattle.cm_inline.proofs.lemmas.ReaderLemmas.{text-goes, put-goes}
 use Rattle.cm_inline.proofs.reading.read_on.Goals as goal
 

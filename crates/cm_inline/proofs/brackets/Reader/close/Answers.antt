@@ -1,11 +1,10 @@
-use Rattle.std.proofs.Common.{◌≡◌, ◌∷◌, ◌<◌, [], true, false, List, length, drop, reverse, IfSome, Err, Vec, Global, refl, sym, ap, subst, ◌∙◌, arith, append-nil}
-use Rattle.cm_inline.specs.declared.brackets.Bracket.{Bracket}
-use Rattle.cm_inline.specs.declared.brackets.Reader.{Reader}
+use Rattle.cm_inline.proofs.lemmas.Words.{◌≡◌, ◌∷◌, ◌<◌, [], true, false, List, length, drop, reverse, IfSome, Err, refl, sym, ap, subst, ◌∙◌, arith, append-nil}
+use Rattle.cm_inline.proofs.lemmas.Words.{Bracket, Reader, InlinesTooDeep}
+use Rattle.std.proofs.Common.{Vec, Global}
 use Rattle.cm_inline.specs.steps.Brackets.{view_of}
 use Rattle.cm_inline.specs.steps.Links.{ends_of, IsPlaced}
 use Rattle.cm_inline.specs.steps.Marks.{target_in}
 use Rattle.cm_inline.specs.steps.Missing.{Knows}
-use Rattle.cm_inline.specs.declared.fault.InlineFault.TheVariants.{InlinesTooDeep}
 use Rattle.cm_inline.proofs.lemmas.DeeperLemmas.{same-fault}
 use Rattle.cm_inline.proofs.lemmas.RightBracketLemmas.{nothing-closes, text-closes}
 use Rattle.cm_inline.proofs.lemmas.ClosedLinkLemmas.{IsLinked, link-closes}

@@ -1,5 +1,4 @@
-use Rattle.std.proofs.Common.{◌≡◌, length, ap, subst, arith}
-use Rattle.std.proofs.lemmas.List.{get_or_read}
+use Rattle.cm_inline.proofs.lemmas.Words.{◌≡◌, length, ap, subst, arith, get_or_read}
 use Rattle.cm_inline.specs.steps.pairing.Events.{build}
 use Rattle.cm_inline.specs.steps.pairing.Parts.{run_events}
 use Rattle.cm_inline.specs.steps.pairing.States.{no_run, run_at}

@@ -1,29 +1,9 @@
-use Rattle.std.proofs.Common.{◌≡◌, ◌-◌, ◌+◌, ◌<◌, length, take, get_or, Some, sym, ap, ◌∙◌, arith}
-use Rattle.std.proofs.lemmas.List.{get_or_read, take_all}
-use Rattle.cm_scan.specs.inlines.Delimiters.{delimiters_match}
+use Rattle.cm_inline.proofs.lemmas.Words.{◌≡◌, ◌-◌, ◌+◌, ◌<◌, length, take, get_or, Some, sym, ap, ◌∙◌, arith, get_or_read, delimiters_match}
 use Rattle.cm_inline.specs.declared.openers.Opener.{Opener}
-use Rattle.cm_inline.specs.steps.Openers.{Stack, no_opener, entries_in}
+use Rattle.cm_inline.specs.steps.Openers.{no_opener, entries_in}
 use Rattle.cm_inline.specs.steps.Runs.{run_of, entry_of}
-use Rattle.cm_inline.specs.steps.Searching.{find_opener, looks_for, from_found}
-use Rattle.cm_inline.proofs.lemmas.OpenerLemmas.{entries-long, openers-take, openers-at, turn-low, turn-finds, turn-passes, turn-ends}
+use Rattle.cm_inline.proofs.lemmas.OpenerLemmas.{openers-take, openers-at, turn-low, turn-finds, turn-passes, turn-ends}
 use Rattle.cm_inline.proofs.openers.Openers.find.Goals as goal
-
-pub loop-at-init : goal.loop-at-init
-loop-at-init c =
-    let stack = c.self.inside.stack.items in
-    let all : take c.len-at.result stack ≡ stack = take_all c.len-at.result stack (omega (arith, c.len-at.ensures)) in
-    let same = ap (λ (s : Stack). s.entries) c.self.view_is in
-    let looks = ap (λ (s : Stack). s.looks) c.self.view_is in
-    let run = run_of c.args.closer in
-    record {
-      within = omega (arith, c.len-at.ensures);
-      openers = c.self.invariant;
-      same = same;
-      found = ap (λ s. find_opener run c.args.bottom (entries_in s)) all ∙ ap (find_opener run c.args.bottom) same;
-      rest = ap (λ s. from_found run c.args.bottom (entries_in s)) all ∙ ap (from_found run c.args.bottom) same;
-      counted = omega (arith, looks, ap (λ s. looks_for run c.args.bottom (entries_in s)) all, ap (looks_for run c.args.bottom) same);
-      few = omega (arith, looks, c.len-at.ensures, entries-long stack, ap length same);
-    }
 
 pub returns-then-index-bottom : goal.returns-then-index-bottom
 returns-then-index-bottom c =

@@ -1,10 +1,6 @@
-use Rattle.std.proofs.Common.{◌≡◌, [], sym, ap, subst, ◌∙◌, arith}
-use Rattle.std.specs.Prelude.{Result, Ok, Err, IfErr}
-use Rattle.std.specs.Result.{IsErrAnd}
-use Rattle.cm_tree.specs.Depth.{inlines_depth}
-use Rattle.cm_scan.specs.inlines.Pairing.{emphasis_of}
+use Rattle.cm_inline.proofs.lemmas.Words.{◌≡◌, sym, ap, subst, ◌∙◌, arith, Result, Ok, IsErrAnd, inlines_depth, emphasis_of, InlineFault}
+use Rattle.std.specs.Prelude.{Err, IfErr}
 use Rattle.cm_inline.specs.Reading.{Refused}
-use Rattle.cm_inline.specs.declared.fault.InlineFault.{InlineFault}
 use Rattle.cm_inline.specs.steps.pairing.Segments.{items_in}
 use Rattle.cm_inline.specs.steps.Brackets.{view_of}
 use Rattle.cm_inline.specs.steps.Marks.{IsSettled}

@@ -1,4 +1,4 @@
-use Rattle.std.proofs.Common.{length, ap, arith}
+use Rattle.cm_inline.proofs.lemmas.Words.{length, ap, arith}
 use Rattle.cm_inline.proofs.lemmas.RunLemmas.{run-known}
 use Rattle.cm_inline.proofs.sizes.Sizes.add_run.Goals as goal
 
