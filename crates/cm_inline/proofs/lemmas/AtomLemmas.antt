@@ -1,10 +1,10 @@
 -- What starts at a place of a source, by the byte that is there.
 use Rattle.cm_inline.proofs.lemmas.Words.{◌≡◌, ℕ, zero, suc, ◌+◌, ◌-◌, ◌<◌, ◌==◌, ◌&&◌, ◌||◌, not, Bool, true, false, List, [], ◌∷◌, length, take, drop, get_or}
-use Rattle.cm_inline.proofs.lemmas.Words.{reverse, replicate, Option, Some, None, codes, refl, sym, ap, subst, ◌∙◌, arith, length-append, length-drop, drop-drop}
-use Rattle.cm_inline.proofs.lemmas.Words.{get_or-drop, IsUtf8, if◌then◌else◌, encode_utf8_all, slice_range, list_all, IsCharBoundary, eqb-true, drop_more}
+use Rattle.cm_inline.proofs.lemmas.Words.{reverse, Option, Some, None, codes, refl, sym, ap, subst, ◌∙◌, arith, length-append, length-drop, drop-drop, get_or-drop}
+use Rattle.cm_inline.proofs.lemmas.Words.{IsUtf8, if◌then◌else◌, encode_utf8_all, slice_range, list_all, IsCharBoundary, eqb-true, drop_more}
 use Rattle.cm_inline.proofs.lemmas.Words.{IsCharBoundary-after_ascii, Rules, is_ascii_punct, chars_of, Chars, begins_with, run_length, after_run, after_word, Reading}
-use Rattle.cm_inline.proofs.lemmas.Words.{Autolink, followed_autolink, raw_html, before, one_line, stripped, whole_of, is_markup, link_of, markup_atom, atom_at}
-use Rattle.cm_inline.proofs.lemmas.Words.{none-some, begins-at, not-same, Marker, Tilde, DelimiterRun, nat_tests, rules}
+use Rattle.cm_inline.proofs.lemmas.Words.{Autolink, followed_autolink, raw_html, before, one_line, stripped, whole_of, link_of, markup_atom, atom_at, none-some}
+use Rattle.cm_inline.proofs.lemmas.Words.{begins-at, not-same, Marker, Tilde, DelimiterRun, nat_tests, rules}
 use Rattle.std.specs.Prelude.{nat_le}
 use Rattle.cm_text.specs.References.{reference, reference_at}
 use Rattle.cm_tree.specs.declared.tree.Inline.TheVariants as inline
@@ -12,7 +12,7 @@ use Rattle.cm_scan.specs.spans.Angles.{Angled, Addressed, Tagged, tagged, at_ang
 use Rattle.cm_scan.specs.spans.CodeSpans.{span_content, code_span}
 use Rattle.cm_scan.specs.inlines.Delimiters as delimiters
 use Rattle.cm_scan.specs.inlines.Pairing as items
-use Rattle.cm_scan.specs.inlines.Atoms.{AtomRead, Plain, Whole, Delimiter, OpenBracket, read, or_byte, byte_atom, backtick_atom, angle_atom, backslash_atom, reference_atom, break_atom, run_between, run_atom, tilde_atom, bang_atom}
+use Rattle.cm_scan.specs.inlines.Atoms.{is_markup, AtomRead, Plain, Whole, Delimiter, OpenBracket, read, or_byte, byte_atom, backtick_atom, angle_atom, backslash_atom, reference_atom, break_atom, run_between, run_atom, tilde_atom, bang_atom}
 use Rattle.cm_scan.proofs.lemmas.texts.WordsGoOn.{false-true}
 use Rattle.cm_scan.proofs.lemmas.inlines.LeftByEachStep.{atom-left}
 use Rattle.cm_inline.proofs.lemmas.BottomLemmas.{kind-small, kind-untilded}
@@ -26,6 +26,7 @@ use Rattle.cm_inline.specs.Closers.{kinds_with, kinds_by}
 use Rattle.cm_inline.specs.Emphases.{emphases_of}
 use Rattle.cm_inline.specs.steps.Searching.{kind}
 use Rattle.cm_inline.specs.steps.Reads.{Stands, atom_in, is_break_byte, item_for, IsNew, IsAtom, Begins}
+use Rattle.std.proofs.Common.{replicate}
 
 -- the source from the place on
 front : (source : List ℕ) (at b : ℕ) → Stands source at b → drop at source ≡ b ∷ drop (at + 1) source

@@ -1,7 +1,6 @@
 -- What inlines events build, one after another.
-use Rattle.cm_inline.proofs.lemmas.Words.{◌≡◌, ℕ, suc, ◌+◌, ◌-◌, ◌<◌, ◌≤◌, true, List, [], ◌∷◌, ◌++◌, sym, ap, ◌∙◌, arith, append_assoc, list_all, and_parts, Emphasis}
-use Rattle.cm_inline.proofs.lemmas.Words.{rules}
-use Rattle.std.specs.Prelude.{replicate}
+use Rattle.cm_inline.proofs.lemmas.Words.{◌≡◌, ℕ, suc, ◌+◌, ◌-◌, ◌<◌, true, List, [], ◌∷◌, ◌++◌, sym, ap, ◌∙◌, arith, append_assoc, list_all, and_parts, Emphasis}
+use Rattle.cm_inline.proofs.lemmas.Words.{rules, replicate}
 use Rattle.cm_tree.specs.declared.tree.Inline.TheVariants as inlines
 use Rattle.cm_inline.specs.declared.runs.Run as held
 use Rattle.cm_inline.specs.declared.runs.Pair as made
@@ -49,9 +48,6 @@ pub left-next : (m new whole : Built) (b left counter : ℕ) (text : List ℕ) �
 left-next m new whole b left counter text below e is h =
     let next : left - counter ≡ suc (left - (counter + 1)) = omega (arith, below) in
     ap (λ k. add_text k (replicate (left - (counter + 1)) b)) (e ∙ ap (add_text m) is) ∙ text-more m (b ∷ []) (replicate (left - (counter + 1)) b) ∙ ap (λ n. add_text m (replicate n b)) (sym next) ∙ h
-
-pub left-last : (m whole : Built) (b left counter : ℕ) → left ≤ counter → add_text m (replicate (left - counter) b) ≡ whole → m ≡ whole
-left-last m whole b left counter high h = let none : left - counter ≡ 0 = omega (arith, high) in sym (text-none m) ∙ ap (λ n. add_text m (replicate n b)) (sym none) ∙ h
 
 pub run-built : (pairs first second : List made.Pair) (number : ℕ) (r : held.Run) (m ended left new : Built) → first ≡ pairs → second ≡ pairs → ended ≡ build m (ends_between (pairs_in first) r.from r.to)
     → left ≡ add_text ended (replicate r.run.left (byte_of r.run.marker)) → new ≡ build left (starts (pairs_in second) r.opened) → new ≡ build m (run_events (pairs_in pairs) number (paired_run r))

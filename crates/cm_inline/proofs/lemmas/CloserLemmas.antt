@@ -14,10 +14,6 @@ pass-other before closer e = ap (λ b. elim b as (λ _. List Item) [ true ↦ cl
 pub pass-stays : (before : List Item) (closer : Run) → (closer.closes ≡ false) ⊎ (nearest_opener closer before [] ≡ None) → passed before (Delimiters closer) ≡ Delimiters closer ∷ before
 pass-stays before closer x2 = grind (arith, nat_tests, pass-other, pass-closer, closed_by-none)
 
-abbrev first_run : Run → List Item → Run
-first_run run (Delimiters r ∷ items) = r
-first_run run _ = run
-
 -- nothing is left of a closer, or something
 left-over : (n : ℕ) (closer run : Run) → Delimiters run ∷ [] ≡ without n closer → (nat_le closer.left n ≡ false) × (run ≡ record closer { left = closer.left - n })
 left-over n closer run e = search rules

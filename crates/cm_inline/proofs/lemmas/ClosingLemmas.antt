@@ -109,10 +109,6 @@ holds-pairs parts first c s before e w g =
       starts = omega (arith, ap starts_in opened, open-starts 0 e.place count tag (events_of s.runs s.pairs parts) rising, length-append s.pairs (record { tag = tag; before = (get_or s.runs e.place no_run).opened } ∷ []));
     }
 
--- the loop of a closer: it begins with no pair
-pub closing-begins : (parts : List Part) (s : State) (run : Run) (before : List Item) → PartsHold parts (length s.pairs) s before → CloserGoesOn parts s run before s run
-closing-begins parts s run before w = search rules
-
 pub same-kind : (left : ℕ) (run c : Run) → record run { left = left } ≡ c → kind run ≡ kind c
 unfolding kind
 same-kind left run c e = ap kind e

@@ -1,6 +1,6 @@
 -- What is finished among items stays, so that they never come to nest less deep.
 use Rattle.cm_inline.proofs.lemmas.Words.{◌≡◌, ℕ, zero, suc, ◌+◌, ◌-◌, ◌<◌, ◌≤◌, Bool, List, [], ◌∷◌, length, reverse, Option, Some, None, refl, ap, arith, max}
-use Rattle.cm_inline.proofs.lemmas.Words.{Result, Ok, IsErrAnd, same_Some, Rules, Inline, Image, outs-Link, outs-Image, fold_out-Inline, depth_step, depth_of}
+use Rattle.cm_inline.proofs.lemmas.Words.{Result, IsErrAnd, same_Some, Rules, Inline, Image, outs-Link, outs-Image, fold_out-Inline, depth_step, depth_of}
 use Rattle.cm_inline.proofs.lemmas.Words.{inlines_depth, Item, Characters, Finished, Linked, Delimiters, Opener, pair_all, emphasis_of, bracket_text, passed}
 use Rattle.cm_inline.proofs.lemmas.Words.{pass_from, Atom, atom_at, Defined, OpenerFound, last_opener, made, Bracketed, bracket_is_text, brackets_are_text}
 use Rattle.cm_inline.proofs.lemmas.Words.{closed_by_bracket, close_bracket, add_atom, item_step, items_after, pairs_in_one_pass, InlineFault, nat_tests, rules}
@@ -10,10 +10,6 @@ use Rattle.cm_tree.specs.declared.tree.Inline.TheVariants.{Link}
 use Rattle.cm_inline.specs.steps.Depths.{item_depth, items_depth}
 use Rattle.cm_inline.proofs.lemmas.PairDepthLemmas.{reverse-depth, settled-items, pass-deeper}
 use Rattle.cm_inline.proofs.lemmas.InlineDepthLemmas.{both}
-
-abbrev fault_or : {A : Type 0} → InlineFault → Result A InlineFault → InlineFault
-fault_or f (Ok x) = f
-fault_or f (Err g) = g
 
 -- a fault that is passed on
 pub same-fault : {A : Type 0} (r : Result A InlineFault) (told fault : InlineFault) → IsErrAnd r (λ e. e ≡ told) → r ≡ Err fault → told ≡ fault

@@ -12,9 +12,6 @@ build-append m (f ∷ fs) gs = build-append (build_one m f) fs gs
 pub means-append : (fs gs : List Event) (xs ys : List Item) → Means fs xs → Means gs ys → Means (fs ++ gs) (xs ++ ys)
 means-append fs gs xs ys f g m = search (rules, build-append, map-append)
 
-pub means-none : Means [] []
-means-none m = refl
-
 pub means-rest : (number : ℕ) (r : Run) → Means (Rest number r ∷ []) (Delimiters r ∷ [])
 unfolding build
 means-rest number r m = refl

@@ -1,7 +1,7 @@
 -- Texts in HTML.
-use Rattle.cm_inline.proofs.lemmas.Words.{◌≡◌, ℕ, zero, suc, ◌+◌, ◌-◌, ◌<◌, true, false, List, [], ◌∷◌, ◌++◌, refl, sym, ap, ◌∙◌, arith, append_assoc, Result, OnOk}
-use Rattle.cm_inline.proofs.lemmas.Words.{list_all, flat_map-append, and_parts, escape_byte, escape, one_line, Marker, Star, Tilde, rules, nat_tests}
-use Rattle.std.specs.Prelude.{replicate}
+use Rattle.cm_inline.proofs.lemmas.Words.{◌≡◌, ℕ, zero, suc, ◌+◌, ◌-◌, ◌<◌, true, false, List, [], ◌∷◌, ◌++◌, refl, sym, ap, ◌∙◌, arith, append_assoc, Result}
+use Rattle.cm_inline.proofs.lemmas.Words.{list_all, flat_map-append, and_parts, escape_byte, escape, one_line, Marker, Star, Tilde, rules, nat_tests, replicate}
+use Rattle.std.specs.Prelude.{OnOk}
 use Rattle.cm_inline.specs.declared.delimiter_runs.Marker.TheVariants.{Underscore}
 use Rattle.cm_inline.specs.steps.Marks.{stays_text}
 use Rattle.cm_inline.specs.steps.Runs.{byte_of}

@@ -1,15 +1,15 @@
 -- What follows the right bracket of a link or an image, by what comes next in the source.
 use Rattle.cm_inline.proofs.lemmas.Words.{◌≡◌, ◌≢◌, ℕ, suc, ◌+◌, ◌<◌, ◌≤◌, ◌==◌, Bool, true, false, List, [], ◌∷◌, ◌++◌, length, drop, get_or, Option, Some, None}
 use Rattle.cm_inline.proofs.lemmas.Words.{IfSome, codes, refl, sym, ap, subst, ◌∙◌, arith, length-append, length-drop, slice_range, IsCharBoundary, drop_more, Rules}
-use Rattle.cm_inline.proofs.lemmas.Words.{is_followed, unescape, Target, target_if_followed, begins_with, after_word, is_blank_next, Reading, label, Defined, closed}
-use Rattle.cm_inline.proofs.lemmas.Words.{after_destination, target_of, target_between, end_if_followed, end_at, begins-at, nat_tests, rules}
+use Rattle.cm_inline.proofs.lemmas.Words.{Target, begins_with, after_word, Reading, label, Defined, target_of, target_between, end_if_followed, end_at, begins-at}
+use Rattle.cm_inline.proofs.lemmas.Words.{nat_tests, rules}
 use Rattle.std.proofs.Common.{option_map, Result, IfOk, if◌then◌else◌}
-use Rattle.cm_tree.specs.Definitions.{target_numbered}
+use Rattle.cm_tree.specs.Definitions.{target_if_followed, target_numbered}
 use Rattle.cm_scan.specs.Scanned.{IsAt}
-use Rattle.cm_scan.specs.spans.Tags.{after_gap}
+use Rattle.cm_scan.specs.spans.Tags.{is_blank_next, after_gap}
 use Rattle.cm_scan.specs.inlines.Links.{destination, title}
 use Rattle.cm_scan.specs.inlines.Brackets as brackets
-use Rattle.cm_scan.specs.inlines.Brackets.{inline_end, collapsed_or_shortcut, reference_end}
+use Rattle.cm_scan.specs.inlines.Brackets.{closed, after_destination, inline_end, collapsed_or_shortcut, reference_end}
 use Rattle.cm_scan.proofs.lemmas.inlines.LeftByEachStep.{end_at-end}
 use Rattle.cm_inline.specs.declared.leaf.Leaf.{Leaf}
 use Rattle.cm_inline.specs.declared.links.LinkEnd.{LinkEnd}
@@ -20,6 +20,8 @@ use Rattle.cm_inline.specs.steps.Leaves.{defined_by}
 use Rattle.cm_inline.specs.steps.Links.{ends_of, leads_to, after_brackets, IsPlaced}
 use Rattle.cm_inline.proofs.lemmas.SliceLemmas.{slice-front}
 use Rattle.cm_inline.proofs.lemmas.LabelLemmas.{label_between, no_label_between}
+use Rattle.cm_text.specs.Addresses.{is_followed}
+use Rattle.cm_text.specs.Unescaping.{unescape}
 
 -- The next byte
 

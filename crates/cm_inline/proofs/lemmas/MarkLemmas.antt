@@ -2,8 +2,7 @@
 use Rattle.cm_inline.proofs.lemmas.Words.{◌≡◌, ℕ, zero, suc, ◌+◌, ◌-◌, ◌<◌, Bool, true, false, cond, List, [], ◌∷◌, ◌++◌, take, drop, get_or, codes, refl, sym, ap}
 use Rattle.cm_inline.proofs.lemmas.Words.{subst, ◌∙◌, arith, encode_utf8, if◌then◌else◌, slice_range, cond-false, get_or-take, get_or_read, get_or-map, Targets}
 use Rattle.cm_inline.proofs.lemmas.Words.{fold_out-Inline, escape, Rendered, inline_step, inlines_html, rendered, one_line, Link, Reader, Kind, Mark, Emphasis, rules}
-use Rattle.cm_inline.proofs.lemmas.Words.{nat_tests}
-use Rattle.std.specs.Prelude.{replicate}
+use Rattle.cm_inline.proofs.lemmas.Words.{nat_tests, replicate}
 use Rattle.std.proofs.lemmas.List.{append-nil, take-map, get_or-drop, drop-map}
 use Rattle.cm_tree.specs.declared.tree.Inline.TheVariants as inlines
 use Rattle.cm_tree.specs.declared.tree.Inline.TheVariants.{outs-Text, outs-Code, outs-Html, outs-Link, outs-Hard}

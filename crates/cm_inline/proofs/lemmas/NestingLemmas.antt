@@ -165,9 +165,6 @@ texts-flat runs pairs d m (b ∷ bs) more high = byte-flat d m b (events_of runs
 
 -- all marks
 
-pub nests-first : (lines : Bool) (source : List ℕ) (targets : Targets) (reader : Reader) (depth : ℕ) → NestsTo lines source targets reader depth → NestsFrom lines source targets reader depth 0 (level 0 0)
-nests-first lines source targets reader depth n = record { from = 0; laid = n.laid; high = omega arith; rest = n.nests }
-
 -- the next mark
 pub record NestsAt (source : List ℕ) (targets : Targets) (reader : Reader) (bound : ℕ) (l : Level) (mark : Mark) : Type 0 where
   pub known : IsMarkIn source targets reader mark

@@ -1,7 +1,7 @@
 -- The stack of openers as a list of entries, the last first.
 use Rattle.cm_inline.proofs.lemmas.Words.{◌≡◌, ℕ, zero, suc, ◌+◌, ◌-◌, ◌<◌, ◌≤◌, true, false, cond, ◌==◌, ◌&&◌, List, [], ◌∷◌, ◌++◌, length, map, reverse, take}
-use Rattle.cm_inline.proofs.lemmas.Words.{get_or, set, Some, None, sym, ap, ◌∙◌, arith, reverse-append, map-append, length-map, length-reverse, length-set, take_all}
-use Rattle.cm_inline.proofs.lemmas.Words.{get_or_read, cond-true, cond-false, ne_eqb, Run, delimiters_match, rules}
+use Rattle.cm_inline.proofs.lemmas.Words.{get_or, set, Some, None, sym, ap, ◌∙◌, arith, reverse-append, map-append, length-set, take_all, get_or_read, cond-true}
+use Rattle.cm_inline.proofs.lemmas.Words.{cond-false, ne_eqb, Run, delimiters_match, rules}
 use Rattle.std.proofs.Common.{nat_lt}
 use Rattle.std.proofs.lemmas.List.{take_more, take_more_set}
 use Rattle.std.proofs.lemmas.Bool.{lt-ltb, le-ltb}
@@ -19,9 +19,6 @@ pub entries-more : (stack : List Opener) (at : ℕ) → 0 < at → at ≤ length
 entries-more stack at h p =
     let n : at ≡ at - 1 + 1 = omega (arith, h) in
     ap (λ k. entries_in (take k stack)) n ∙ ap entries_in (take_more stack (at - 1) no_opener (omega (arith, h, p))) ∙ entries-push (take (at - 1) stack) (get_or stack (at - 1) no_opener)
-
-pub entries-long : (stack : List Opener) → length (entries_in stack) ≡ length stack
-entries-long stack = length-reverse (map entry_of stack) ∙ length-map stack entry_of
 
 pub openers-push : (stack : List Opener) (opener : Opener) → AreOpeners stack → opener.run.opens ≡ true → 1 ≤ opener.run.left → AreOpeners (stack ++ opener ∷ [])
 openers-push [] opener h o s = (o, s, tt)

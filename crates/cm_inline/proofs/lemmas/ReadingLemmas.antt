@@ -3,8 +3,8 @@ use Rattle.cm_inline.proofs.lemmas.Words.{◌≡◌, ℕ, zero, ◌+◌, ◌-◌
 use Rattle.cm_inline.proofs.lemmas.Words.{arith, append-nil, append_assoc, cond-true, cond-false, eq-eqb, ne_eqb, flat_map-append, Inline, fold_out-Inline, outs-Text}
 use Rattle.cm_inline.proofs.lemmas.Words.{outs-Link, outs-Image, outs-Emph, outs-Strong, outs-Strike, depth_step, depth_of, inlines_depth, escape_byte, escape}
 use Rattle.cm_inline.proofs.lemmas.Words.{Rendered, inline_step, inlines_html, rendered, Run, Item, emphasised, Characters, Finished, Linked, Delimiters, Opener}
-use Rattle.cm_inline.proofs.lemmas.Words.{bracket_text, text_before, settled_after, settled, rules, nat_tests}
-use Rattle.std.specs.Prelude.{flat_map, replicate}
+use Rattle.cm_inline.proofs.lemmas.Words.{bracket_text, text_before, settled_after, settled, rules, nat_tests, replicate}
+use Rattle.std.specs.Prelude.{flat_map}
 use Rattle.cm_tree.specs.declared.tree.Inline.TheVariants as inlines
 use Rattle.cm_html.specs.Html.{join_plain, image_html}
 use Rattle.cm_inline.proofs.lemmas.InlineDepthLemmas.{both, settled-after-depth}

@@ -36,9 +36,6 @@ reserve-remove bs xs ys zs =
     less : (b : ℕ) → above b (xs ++ zs) ≤ above b (xs ++ ys ++ zs) + 0
     less b = omega (arith, above-append b xs zs, above-append b (xs ++ ys) zs, above-append b xs ys)
 
-abbrev one_if : Bool → ℕ
-one_if b = cond b 1 0
-
 pub above-all : (n : ℕ) (es : List Entry) → Below n es → above n es ≡ zero
 above-all n [] h = refl
 above-all n (e ∷ es) h = search (rules, above-cons, leb-true, (above-all n es h.1))

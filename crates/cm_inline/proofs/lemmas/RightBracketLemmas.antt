@@ -1,7 +1,7 @@
 -- A source that is read up to a `]`, and what that makes.
-use Rattle.cm_inline.proofs.lemmas.Words.{◌≡◌, ℕ, ◌+◌, ◌-◌, ◌<◌, ◌≤◌, Bool, true, false, ◌||◌, List, [], ◌∷◌, ◌++◌, drop, reverse, None, refl, sym, ap, subst, ◌∙◌}
-use Rattle.cm_inline.proofs.lemmas.Words.{arith, append_assoc, nat_lt, IsUtf8, slice_range, list_all, reverse-append, IsCharBoundary-after_ascii, Rules, Targets}
-use Rattle.cm_inline.proofs.lemmas.Words.{defined_in, holds_link, Item, Characters, Opener, bracket_text, Bracket, Reader, Mark, rules, nat_tests}
+use Rattle.cm_inline.proofs.lemmas.Words.{◌≡◌, ℕ, ◌+◌, ◌-◌, ◌<◌, ◌≤◌, true, false, ◌||◌, List, [], ◌∷◌, ◌++◌, drop, reverse, None, refl, sym, ap, subst, ◌∙◌, arith}
+use Rattle.cm_inline.proofs.lemmas.Words.{append_assoc, nat_lt, IsUtf8, slice_range, list_all, reverse-append, IsCharBoundary-after_ascii, Rules, Targets, defined_in}
+use Rattle.cm_inline.proofs.lemmas.Words.{holds_link, Item, Characters, Opener, bracket_text, Bracket, Reader, Mark, rules}
 use Rattle.cm_inline.specs.declared.marks.Kind.TheVariants as kinds
 use Rattle.cm_inline.specs.steps.pairing.Events.{Text}
 use Rattle.cm_inline.specs.steps.pairing.Paired.{AreRuns}
@@ -61,12 +61,6 @@ nothing-closes rules source targets at old new stands none still view looks g =
     (subst (λ t. Keeps old.runs.openers.looks items new.runs.openers.looks t) (sym is) (subst (λ n. Keeps old.runs.openers.looks items n (items ++ Characters text ∷ [])) (sym looks) (keeps-closer old.runs.openers.looks items text)))
 
 -- The last open bracket becomes text.
-opener-text : (source : List ℕ) (image : Bool) (at behind : ℕ) → IsOpener source image at behind → slice_range source at behind ≡ bracket_text image
-opener-text source image at behind o = search rules
-
-opener-stays : (image : Bool) → list_all (stays_text false) (bracket_text image) ≡ true
-opener-stays image = grind (arith, nat_tests)
-
 abbrev pub left_segment : Bracket → ℕ → Segment
 left_segment b high = Made (Known (Text (bracket_text b.image) ∷ []) ∷ []) (Characters (bracket_text b.image)) high
 

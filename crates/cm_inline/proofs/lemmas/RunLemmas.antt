@@ -1,6 +1,5 @@
 -- What a delimiter run writes.
-use Rattle.cm_inline.proofs.lemmas.Words.{◌≡◌, ℕ, ◌<◌, ◌≤◌, List, ◌++◌, length, get_or, sym, ap, subst, ◌∙◌, arith, get_or-map, rules}
-use Rattle.std.specs.Prelude.{replicate}
+use Rattle.cm_inline.proofs.lemmas.Words.{◌≡◌, ℕ, ◌<◌, ◌≤◌, List, ◌++◌, length, get_or, sym, ap, subst, ◌∙◌, arith, get_or-map, rules, replicate}
 use Rattle.cm_inline.specs.declared.runs.Run as held
 use Rattle.cm_inline.specs.declared.runs.Pair as made
 use Rattle.cm_inline.specs.steps.pairing.Parts.{PairedRun, no_run, starts, ends_between, run_events}

@@ -34,9 +34,6 @@ left-in number left opened runs h = search (rules, map-set, get_or-map)
 pub same-write : (old runs new : List HeldRun) (number : ℕ) (x : HeldRun) → number < length runs → SameRuns old runs → new ≡ set runs number x → x.run.marker ≡ (run_at runs number).run.marker → x.run.whole ≡ (run_at runs number).run.whole → SameRuns old new
 same-write old runs new number x within s e m w = search rules
 
-pub grows-none : (low high : ℕ) (s : State) → Grows low high s s
-grows-none low high s = record { long = refl; others = λ k h. refl; added = []; pairs = sym (append-nil s.pairs) }
-
 pub grows-write : (low high number : ℕ) (x : PairedRun) (more : List Pair) (old s t : State) → low ≤ number → number < high → Grows low high old s → t.runs ≡ set s.runs number x → t.pairs ≡ s.pairs ++ more → Grows low high old t
 grows-write low high number x more old s t l h g e p = search (rules, length-set, get_or-set_other, append_assoc)
 
@@ -92,10 +89,6 @@ same-list l m e k n = λ i. record { entries = e i; looks = k i; next = n i }
 
 pub same-state : (s t : State) → s.runs ≡ t.runs → s.pairs ≡ t.pairs → s.list ≡ t.list → s.bottoms ≡ t.bottoms → s ≡ t
 same-state s t r p l b = λ i. record { runs = r i; pairs = p i; list = l i; bottoms = b i }
-
--- at first
-pub steps-none : (old : Runs) (had : List ℕ) (number : ℕ) → IsReady (state_of old had number).list had → RunSteps old old had had number number 0
-steps-none old had number ready = search rules
 
 -- a search in vain
 pub steps-fails : (old new : Runs) (had bs : List ℕ) (number : ℕ) (c : Run) (openers : Stack) → RunSteps old new had bs number number 0 → find_opener c (get_or bs (kind c) 0) new.openers.entries ≡ None

@@ -1,18 +1,18 @@
 -- Where a text ends.
 use Rattle.cm_inline.proofs.lemmas.Words.{◌≡◌, ℕ, suc, ◌+◌, ◌-◌, ◌<◌, ◌≤◌, ◌==◌, ◌&&◌, ◌||◌, not, Bool, true, false, List, [], ◌∷◌, ◌++◌, length, take, drop, get_or}
-use Rattle.cm_inline.proofs.lemmas.Words.{replicate, refl, sym, ap, subst, ◌∙◌, arith, append_assoc, length-append, length-drop, get_or-drop, drop-drop, nat_lt}
-use Rattle.cm_inline.proofs.lemmas.Words.{list_all, list_any, slice_range, IsCharBoundary, and_parts, nat_tests, drop_more, length-take, IsCharBoundary-before_ascii}
-use Rattle.cm_inline.proofs.lemmas.Words.{next_place, is_marked, begins_with, is_empty, trim_end_spaces, ends_with, is_plain_byte, Rules, Text, Defined, inlines_of}
-use Rattle.cm_inline.proofs.lemmas.Words.{rules}
-use Rattle.std.proofs.Common.{take_all}
+use Rattle.cm_inline.proofs.lemmas.Words.{refl, sym, ap, subst, ◌∙◌, arith, append_assoc, length-append, length-drop, get_or-drop, drop-drop, nat_lt, list_all}
+use Rattle.cm_inline.proofs.lemmas.Words.{slice_range, IsCharBoundary, and_parts, nat_tests, drop_more, length-take, IsCharBoundary-before_ascii, next_place}
+use Rattle.cm_inline.proofs.lemmas.Words.{is_marked, begins_with, is_empty, ends_with, is_plain_byte, Rules, Text, Defined, inlines_of, rules}
+use Rattle.std.proofs.Common.{replicate, take_all}
 use Rattle.std.specs.Prelude.{cond}
-use Rattle.std.specs.List.{position_or_len}
+use Rattle.std.specs.List.{list_any, position_or_len}
 use Rattle.cm_scan.specs.laws.InlineLaws.{keeps_spaces}
 use Rattle.cm_scan.proofs.lemmas.texts.TrimLemmas.{trimmed}
 use Rattle.cm_scan.proofs.lemmas.inlines.ReadingSteps.{unmarked_is_plain, plain_is_itself}
 use Rattle.cm_inline.proofs.lemmas.SliceLemmas.{slice-front}
 use Rattle.cm_inline.specs.steps.Marks.{stays_text}
 use Rattle.cm_inline.specs.steps.Reads.{IsTextTo}
+use Rattle.cm_scan.specs.Words.{trim_end_spaces}
 
 -- the bytes up to the first that is looked for
 record UpTo (text : List ℕ) (count : ℕ) : Type 0 where

@@ -1,7 +1,7 @@
 -- The names of the crates below, and of the declared types, that many files of the proof cite, passed on from one place. It declares nothing.
 pub use Rattle.std.proofs.Common.{Bool, Err, IfSome, List, None, Option, Some, [], add-one, ap, append-nil, append_assoc, arith, codes, cond, drop, drop-drop, false}
-pub use Rattle.std.proofs.Common.{get_or, get_or-drop, inl, inr, length, length-append, length-drop, map, max, nat_le, not, refl, replicate, reverse, rules, set}
-pub use Rattle.std.proofs.Common.{subst, suc, sym, take, take-add, true, zero, ℕ, ◌&&◌, ◌*◌, ◌++◌, ◌+◌, ◌-◌, ◌<◌, ◌==◌, ◌^◌, ◌||◌, ◌∙◌, ◌∷◌, ◌≡◌, ◌≢◌, ◌≤◌, ◌⊎◌}
+pub use Rattle.std.proofs.Common.{get_or, get_or-drop, inl, inr, length, length-append, length-drop, map, max, nat_le, not, refl, reverse, rules, set, subst, suc, sym}
+pub use Rattle.std.proofs.Common.{take, take-add, true, zero, ℕ, ◌&&◌, ◌*◌, ◌++◌, ◌+◌, ◌-◌, ◌<◌, ◌==◌, ◌^◌, ◌||◌, ◌∙◌, ◌∷◌, ◌≡◌, ◌≢◌, ◌≤◌, ◌⊎◌}
 pub use Rattle.std.proofs.Math.Seq.{drop-append_seam}
 pub use Rattle.std.proofs.lemmas.Bool.{and_parts, cond-false, cond-true, eq-eqb, eqb-false, eqb-true, le-leb, leb-true, ltb-false, ltb-true, ne_eqb, not-true}
 pub use Rattle.std.proofs.lemmas.Bool.Decides.{nat_tests}
@@ -12,8 +12,8 @@ pub use Rattle.std.proofs.lemmas.List.{reverse-append, reverse-reverse, take-app
 pub use Rattle.std.proofs.lemmas.List.Sums.{sum_by-append, sum_by-cons}
 pub use Rattle.std.proofs.lemmas.Option.{same_Some}
 pub use Rattle.std.proofs.lemmas.Str.{IsCharBoundary-after_ascii, IsCharBoundary-before_ascii, IsCharBoundary-start}
-pub use Rattle.std.specs.List.{concat, list_all, list_any, slice_range}
-pub use Rattle.std.specs.Prelude.{IsUtf8, Ok, OnOk, Result, encode_utf8, encode_utf8_all, if◌then◌else◌, nat_lt}
+pub use Rattle.std.specs.List.{concat, list_all, slice_range}
+pub use Rattle.std.specs.Prelude.{IsUtf8, Result, encode_utf8, encode_utf8_all, if◌then◌else◌, nat_lt, replicate}
 pub use Rattle.std.specs.Result.{IsErrAnd}
 pub use Rattle.std.specs.Str.{IsCharBoundary}
 pub use Rattle.cm_html.specs.Escape.{escape, escape_byte}
@@ -45,12 +45,12 @@ pub use Rattle.cm_scan.proofs.lemmas.texts.ScannerAnswers.{begins-at}
 pub use Rattle.cm_scan.proofs.lemmas.texts.WordsGoOn.{none-some}
 pub use Rattle.cm_scan.specs.Scanned.{whole_of}
 unfoldable pub use Rattle.cm_scan.specs.Words.{after_run, after_word, run_length}
-pub use Rattle.cm_scan.specs.Words.{begins_with, is_empty, trim_end_spaces}
-pub use Rattle.cm_scan.specs.inlines.Atoms.{Atom, is_markup, link_of}
+pub use Rattle.cm_scan.specs.Words.{begins_with, is_empty}
+pub use Rattle.cm_scan.specs.inlines.Atoms.{Atom, link_of}
 unfoldable pub use Rattle.cm_scan.specs.inlines.Atoms.{atom_at, markup_atom}
-pub use Rattle.cm_scan.specs.inlines.Brackets.{Bracketed, Defined, LinkEnd, OpenerFound, bracket_is_text, brackets_are_text, closed, defined_in, end_if_followed}
-pub use Rattle.cm_scan.specs.inlines.Brackets.{is_linked, made, target_between, target_of}
-unfoldable pub use Rattle.cm_scan.specs.inlines.Brackets.{after_destination, close_bracket, closed_by_bracket, end_at, holds_link, last_opener}
+pub use Rattle.cm_scan.specs.inlines.Brackets.{Bracketed, Defined, LinkEnd, OpenerFound, bracket_is_text, brackets_are_text, defined_in, end_if_followed, is_linked}
+pub use Rattle.cm_scan.specs.inlines.Brackets.{made, target_between, target_of}
+unfoldable pub use Rattle.cm_scan.specs.inlines.Brackets.{close_bracket, closed_by_bracket, end_at, holds_link, last_opener}
 pub use Rattle.cm_scan.specs.inlines.Delimiters.{Run}
 unfoldable pub use Rattle.cm_scan.specs.inlines.Delimiters.{delimiters_match}
 unfoldable pub use Rattle.cm_scan.specs.inlines.Inlines.{add_atom, depth_of_leaf, inlines_of, item_step, items_after}
@@ -70,15 +70,12 @@ unfoldable pub use Rattle.cm_scan.specs.spans.Autolinks.{ends_with, followed_aut
 pub use Rattle.cm_scan.specs.spans.CodeSpans.{one_line}
 unfoldable pub use Rattle.cm_scan.specs.spans.CodeSpans.{spanned_as_written, stripped, up_to_run}
 pub use Rattle.cm_scan.specs.spans.RawHtml.{raw_html}
-pub use Rattle.cm_scan.specs.spans.Tags.{is_blank_next}
-pub use Rattle.cm_text.specs.Addresses.{is_followed}
 pub use Rattle.cm_text.specs.Characters.{is_ascii_punct}
 pub use Rattle.cm_text.specs.References.{chars_of}
 pub use Rattle.cm_text.specs.Rules.{Rules}
 pub use Rattle.cm_text.specs.Search.{is_marked, next_place}
-pub use Rattle.cm_text.specs.Unescaping.{unescape}
 pub use Rattle.cm_text.specs.declared.references.Chars.{Chars}
-pub use Rattle.cm_tree.specs.Definitions.{Target, Targets, target_if_followed}
+pub use Rattle.cm_tree.specs.Definitions.{Target, Targets}
 pub use Rattle.cm_tree.specs.Depth.{depth_of, depth_step, inlines_depth}
 pub use Rattle.cm_tree.specs.declared.tree.Inline.{Inline}
 pub use Rattle.cm_tree.specs.declared.tree.Inline.TheFolds.{fold_out-Inline}

@@ -1,19 +1,10 @@
 use Rattle.cm_inline.proofs.lemmas.Words.{◌+◌, ◌-◌, ◌≤◌, length, get_or, sym, ap, ◌∙◌, arith, slice_range, IsCharBoundary-before_ascii, IsCharBoundary-after_ascii}
-use Rattle.cm_inline.proofs.lemmas.Words.{one_line, stripped}
+use Rattle.cm_inline.proofs.lemmas.Words.{one_line, stripped, rules}
 use Rattle.cm_inline.proofs.lemmas.CodeLemmas.{space-ascii, inner-is, part-length, part-first, part-last, stripped-short, stripped-first, stripped-last, stripped-spaces, stripped-cut}
 use Rattle.cm_inline.proofs.code.content_between.Goals as goal
-use Rattle.cm_inline.proofs.code.content_between.Goals.{then-len-lt2-via-then-len-lt2, then-len-lt2-via-else-len-lt2+then-not-is_space, then-len-lt2-via-else-len-lt2+else-not-is_space+then-not-is_space-2}
 
 pub returns-then-len-lt2-clause-stripped : goal.returns-then-len-lt2-clause-stripped
-returns-then-len-lt2-clause-stripped c =
-    let bytes = slice_range c.as_bytes.result.now c.args.from c.args.to in
-    let same = ap (λ t. slice_range t c.args.from c.args.to) c.as_bytes.ensures.value in
-    let size = part-length c.as_bytes.result.now c.args.from c.args.to c.requires.0 (omega (arith, c.requires.2.0, ap length c.as_bytes.ensures.value)) in
-    elim c.then-len-lt2.branch [
-      | then-len-lt2-via-then-len-lt2 w ↦ rw (sym same) (stripped-short bytes (omega (arith, size, w.if-len-lt2.true)))
-      | then-len-lt2-via-else-len-lt2+then-not-is_space w ↦ rw (sym same) (stripped-first bytes (sym w.is_space.ensures ∙ w.if-not-is_space.true))
-      | then-len-lt2-via-else-len-lt2+else-not-is_space+then-not-is_space-2 w ↦ rw (sym same) (stripped-last bytes (sym w.is_space-else-not-is_space.ensures ∙ w.if-not-is_space-2.true))
-    ]
+returns-then-len-lt2-clause-stripped c = search (rules, part-length, stripped-short, stripped-first, stripped-last)
 
 pub returns-then-are_spaces-clause-stripped : goal.returns-then-are_spaces-clause-stripped
 returns-then-are_spaces-clause-stripped c =

@@ -1,5 +1,5 @@
 use Rattle.cm_inline.proofs.lemmas.Words.{◌≡◌, ◌∷◌, ◌<◌, [], true, false, List, length, drop, reverse, IfSome, Err, refl, sym, ap, subst, ◌∙◌, arith, append-nil}
-use Rattle.cm_inline.proofs.lemmas.Words.{Bracket, Reader, InlinesTooDeep}
+use Rattle.cm_inline.proofs.lemmas.Words.{Bracket, Reader, InlinesTooDeep, rules}
 use Rattle.std.proofs.Common.{Vec, Global}
 use Rattle.cm_inline.specs.steps.Brackets.{view_of}
 use Rattle.cm_inline.specs.steps.Links.{ends_of, IsPlaced}
@@ -16,11 +16,7 @@ none [] h = refl
 none (b ∷ bs) h = absurd (cc (h (omega arith)))
 
 pub returns-in_default-clause-reading : goal.returns-in_default-clause-reading
-returns-in_default-clause-reading c =
-    let old = c.args.self.now in
-    let had : old.brackets.items ≡ [] = none old.brackets.items (λ some. c.in_default.ensures.variant.1 (omega (arith, some, old.brackets.ok))) in
-    nothing-closes c.args.rules c.args.leaf.source.now c.args.leaf.definitions.now c.args.at old (record { marks = old.marks; runs = old.runs; links = old.links; brackets = c.pop.new.self; links_end = old.links_end; lines = old.lines; ends = old.ends })
-    c.requires.stands had (sym (c.in_default.ensures.items ∙ append-nil c.pop.new.self.items) ∙ had) refl refl c.requires.reading
+returns-in_default-clause-reading c = search (rules, none, nothing-closes, append-nil)
 
 pub end_after-requires : goal.end_after-requires
 end_after-requires c =
