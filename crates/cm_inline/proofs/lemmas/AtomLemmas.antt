@@ -67,10 +67,7 @@ module _ (rules : Rules) (source : List ℕ) (at : ℕ) where
   run-is m end a s run left boundary same rest item stays =
       let size : end - at ≡ run_length m (drop at source) = omega (arith, run) in
       let text : slice_range source at end ≡ replicate (run_length m (drop at source)) m = ap (λ n. take n (drop at source)) size ∙ run-front m (drop at source) in
-      record {
-        is = is-atom (items.Characters (slice_range source at end)) end a s.within same (rest ∙ sym left) (item ∙ sym (ap (λ t. Some (items.Characters t)) text)) boundary tt;
-        there = ap (list_all (stays_text true)) text ∙ stays (run_length m (drop at source));
-      }
+      grind (arith, nat_tests, is-atom)
 
   -- one byte as text
 

@@ -2,7 +2,7 @@
 use Rattle.cm_inline.proofs.lemmas.Words.{◌≡◌, inr, ℕ, suc, ◌+◌, ◌<◌, ◌≤◌, Bool, true, false, cond, ◌==◌, nat_le, List, [], ◌∷◌, ◌++◌, length, drop, reverse, get_or}
 use Rattle.cm_inline.proofs.lemmas.Words.{set, Some, None, refl, sym, ap, subst, ◌∙◌, arith, append-nil, append_assoc, length-append, reverse-append, get_or-set_same}
 use Rattle.cm_inline.proofs.lemmas.Words.{get_or-set_other, length-set, take_all, cond-false, ne_eqb, leb-true, le-leb, Run, Item, Delimiters, Opened, nearest_opener}
-use Rattle.cm_inline.proofs.lemmas.Words.{used, without, up_to_pair, passed, opened_at, rules}
+use Rattle.cm_inline.proofs.lemmas.Words.{used, without, up_to_pair, passed, opened_at, rules, nat_tests}
 use Rattle.cm_inline.specs.steps.Entries.{Entry, Listed}
 use Rattle.cm_inline.specs.steps.Openers.{spent}
 use Rattle.cm_inline.specs.steps.Pairs.{items_emphases}
@@ -16,7 +16,7 @@ use Rattle.cm_inline.proofs.lemmas.CloserLemmas.{pass-other, pass-further, pass-
 use Rattle.cm_inline.proofs.lemmas.SearchLemmas.{FoundBy}
 use Rattle.cm_inline.specs.steps.pairing.ClosingRuns.{AreUnder, State, so_far, PartsHold, last_depth, CloserGoesOn, CloserDone, PartAdded, PassGoesOn}
 use Rattle.cm_inline.specs.steps.pairing.Events.{Event, Rest, Tag, Start, tag_of}
-use Rattle.cm_inline.specs.steps.pairing.Parts.{Pair, PairedRun, Part, Numbered, Known, chain, ends, no_run, run_events, events_of, with_pair, with_opened, opened_event, open_at, Rising, HaveNoRun, AreParts}
+use Rattle.cm_inline.specs.steps.pairing.Parts.{Pair, PairedRun, Part, Numbered, Known, chain, ends, no_run, events_of, with_pair, with_opened, opened_event, open_at, Rising, HaveNoRun, AreParts}
 use Rattle.cm_inline.specs.steps.pairing.Readings.{starts_in}
 use Rattle.cm_inline.specs.steps.pairing.WaitingOpeners.{WaitAsOpeners}
 use Rattle.cm_inline.proofs.lemmas.PartLemmas.{ends-none, pair-written, open-starts, pair-events-written, AreSuch, such-none, such-append, such-parts, under-all}
@@ -92,22 +92,7 @@ holds-pairs parts first c s before e w g =
     let opened = pair-written e.place count tag s.runs s.pairs parts w.marked in
     let rising = rising-front 0 (events_of s.runs s.pairs parts) (ends (drop first s.pairs)) w.rising in
     let written = pair-events-written c e p.below before s.runs s.pairs parts first w.marked w.early p.found w.rising in
-    record {
-      low = p.found.low;
-      inside = reverse p.found.inside;
-      nearest = p.nearest;
-      holds = record {
-        waits = subst (λ fs. WaitAsOpeners fs (reverse (up_to_pair (opened_at e.run p.found.low (reverse p.found.inside)) c)) new.list s.bottoms) (sym written) p.waits;
-        marked = parts-kept e.place count tag s.runs s.pairs parts w.marked;
-        under = w.under;
-        rising = rising-more 0 (events_of new.runs new.pairs parts) (ends (drop first new.pairs)) (subst (Rising 0) (sym opened) (rising-open 0 e.place count tag (events_of s.runs s.pairs parts) rising)) (ends-none (drop first new.pairs));
-        early = omega (arith, w.early, length-append s.pairs (record { tag = tag; before = (get_or s.runs e.place no_run).opened } ∷ []));
-      };
-      paid = p.paid;
-      made = p.made;
-      nested = omega (arith, last-inside before p.found.inside p.found.low e.run p.found.whole, reverse-depth p.found.inside);
-      starts = omega (arith, ap starts_in opened, open-starts 0 e.place count tag (events_of s.runs s.pairs parts) rising, length-append s.pairs (record { tag = tag; before = (get_or s.runs e.place no_run).opened } ∷ []));
-    }
+    grind (arith, nat_tests, opened_at, parts-kept, rising-more, rising-open, ends-none, length-append, last-inside, reverse-depth, open-starts)
 
 pub same-kind : (left : ℕ) (run c : Run) → record run { left = left } ≡ c → kind run ≡ kind c
 unfolding kind
@@ -236,14 +221,7 @@ unfolding events_of
 so-far-finished parts number first left run list s within under =
     let now = closed_run (record run { left = left }) first (length s.pairs) in
     let runs = set s.runs number now in
-    ap (λ t. events_of runs s.pairs (parts ++ Numbered number ∷ []) ++ ends t) (drop-all s.pairs)
-    ∙ append-nil (events_of runs s.pairs (parts ++ Numbered number ∷ []))
-    ∙ events-append runs s.pairs parts (Numbered number ∷ [])
-    ∙ ap (λ t. t ++ events_of runs s.pairs (Numbered number ∷ [])) (events-elsewhere number now s.runs s.pairs parts under)
-    ∙ ap (λ t. events_of s.runs s.pairs parts ++ t)
-    (append-nil (run_events s.pairs number (get_or runs number no_run)) ∙ ap (run_events s.pairs number) (get_or-set_same s.runs number now no_run within)
-    ∙ ap (λ t. ends (drop first t) ++ Rest number now.run ∷ chain (reverse s.pairs) 0) (take_all (length s.pairs) s.pairs (omega arith)) ∙ ap (λ t. ends (drop first s.pairs) ++ Rest number now.run ∷ t) (chain-zero (reverse s.pairs)))
-    ∙ sym (append_assoc (events_of s.runs s.pairs parts) (ends (drop first s.pairs)) (Rest number now.run ∷ []))
+    search (rules, drop-all, append-nil, events-append, events-elsewhere, get_or-set_same, take_all, chain-zero, append_assoc)
 
 -- the numbers among events are below this one
 abbrev pub AreLow : ℕ → List Event → Type 0

@@ -3,7 +3,7 @@ use Rattle.cm_inline.proofs.lemmas.Words.{◌≡◌, ℕ, ◌+◌, ◌-◌, Bool
 use Rattle.cm_inline.proofs.lemmas.Words.{if◌then◌else◌, reverse-append, Inline, Text, Code, Html, Soft, Hard, Emph, Strong, Strike, Image, outs-Text, outs-Code}
 use Rattle.cm_inline.proofs.lemmas.Words.{outs-Html, outs-Soft, outs-Hard, outs-Emph, outs-Strong, outs-Strike, outs-Link, outs-Image, fold_out-Inline, Autolink}
 use Rattle.cm_inline.proofs.lemmas.Words.{link_of, Run, Item, Finished, Linked, Delimiters, Opened, text_before, settled_after, settled, emphasis_of, emphasised, used}
-use Rattle.cm_inline.proofs.lemmas.Words.{without, nearest_opener, made, up_to_pair, nearest-splits, nat_tests}
+use Rattle.cm_inline.proofs.lemmas.Words.{without, nearest_opener, made, up_to_pair, nearest-splits, nat_tests, rules}
 use Rattle.std.proofs.Common.{zero-add}
 use Rattle.cm_tree.specs.declared.tree.Inline.TheVariants.{Link}
 use Rattle.cm_inline.specs.Emphases.{emphases_step, emphases_of, emphases}
@@ -76,18 +76,7 @@ pair-holds before closer found is =
     let n = used found.opener closer in
     let inside = emphasised closer.character n (settled found.inside) in
     let whole = ap items_emphases (nearest-splits closer before [] found is) in
-    omega (
-      arith,
-      whole,
-      both-hold (reverse before) [],
-      reversed-hold before,
-      both-hold found.before (Delimiters found.opener ∷ found.inside),
-      both-hold (found.before ++ without n found.opener) (Finished inside ∷ []),
-      both-hold found.before (without n found.opener),
-      rest-holds n found.opener,
-      emphasised-holds closer.character n (settled found.inside),
-      settled-holds found.inside,
-    )
+    search (rules, both-hold, reversed-hold, rest-holds, emphasised-holds, settled-holds)
 
 -- a link or an image holds what its content holds
 pub made-holds : (image : Bool) (dest title : List ℕ) (inside : List Item) → items_emphases (made image dest title inside ∷ []) ≡ emphases (emphasis_of inside)

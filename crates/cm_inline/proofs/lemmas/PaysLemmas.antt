@@ -1,7 +1,7 @@
 -- The looks for which a source that is read up to a place pays.
 use Rattle.cm_inline.proofs.lemmas.Words.{◌≡◌, ℕ, zero, ◌+◌, ◌*◌, ◌^◌, ◌<◌, ◌≤◌, Bool, true, false, List, [], ◌∷◌, ◌++◌, length, take, drop, get_or, reverse, Some}
 use Rattle.cm_inline.proofs.lemmas.Words.{refl, sym, ap, subst, ◌∙◌, arith, nat_lt, if◌then◌else◌, slice_range, drop_more, reverse-append, sum_by-append, sum_by-cons}
-use Rattle.cm_inline.proofs.lemmas.Words.{same_Some, Rules, Atom, markup_atom, atom_at, Bracketed, Defined, Run, with_item, item_step, one_by_one, nat_tests, rules}
+use Rattle.cm_inline.proofs.lemmas.Words.{same_Some, Rules, Atom, markup_atom, atom_at, Defined, Run, with_item, item_step, one_by_one, nat_tests, rules}
 use Rattle.std.proofs.lemmas.List.{append-nil}
 use Rattle.cm_scan.specs.inlines.Pairing as items
 use Rattle.cm_scan.specs.inlines.DelimiterRuns.{run_in, runs_after, runs_of, characters_of}
@@ -27,12 +27,7 @@ step-counts rules defined source so_far more at end within further gives =
     let taken = slice_range source (at + 1) end in
     let behind : drop (at + 1) source ≡ taken ++ drop end source = slice-front source (at + 1) end (omega (arith, further)) in
     let own = run_in (atom_in rules source at).atom in
-    ap (λ t. characters_of (runs_after rules defined zero before t items)) (drop_more source at 0 within ∙ ap (λ t. b ∷ t) behind)
-    ∙ ap characters_of (runs-go-on rules defined before b taken (drop end source) items (ap (λ t. (item_step rules defined before b t items).rest) (sym behind) ∙ ap (λ (s : Bracketed). s.rest) gives))
-    ∙ ap (λ t. characters_of (run_in (atom_at rules before b t).atom ++ runs_after rules defined zero (reverse taken ++ b ∷ before) (drop end source) (item_step rules defined before b t items).items)) (sym behind)
-    ∙ ap (λ p. characters_of (own ++ runs_after rules defined zero p (drop end source) (step_at rules defined source at items).items)) (before-one source at end further within)
-    ∙ ap (λ (s : Bracketed). characters_of (own ++ runs_after rules defined zero (reverse (take end source)) (drop end source) s.items)) gives
-    ∙ sum_by-append (λ (run : Run). run.whole) own (runs_after rules defined zero (reverse (take end source)) (drop end source) (reverse more))
+    grind (arith, nat_tests, drop_more, runs-go-on, step_at, before-one, sum_by-append)
 
 text-on : (rules : Rules) (defined : Defined) (source : List ℕ) (so_far : List items.Item) (at end : ℕ) → IsTextTo source at end
     → characters_ahead rules defined source (so_far ++ items.Characters (slice_range source at end) ∷ []) end ≡ characters_ahead rules defined source so_far at

@@ -49,22 +49,7 @@ fresh-read : (source : List ℕ) (targets : Targets) (lines : Bool) (ends : Miss
 unfolding items_in all_parts numbers_in has_opener events_of number_after
 fresh-read source targets lines ends short utf8 knows =
     let start = IsCharBoundary-start source utf8 in
-    record {
-      short = short;
-      utf8 = utf8;
-      boundary = start;
-      knows = knows;
-      open_are = record { parts = sym (parts-none lines source targets [] [] 0); laid = none-laid lines source 0 start; none = refl };
-      segments_are = tt;
-      runs_are = tt;
-      waiting = refl;
-      chained = chained-none;
-      links_low = omega arith;
-      few_runs = omega arith;
-      few_links = omega arith;
-      high = omega arith;
-      starts = omega arith;
-    }
+    search (rules, parts-none, none-laid, chained-none)
 
 -- Nothing is read yet.
 pub nothing-read : (rules : Rules) (source : List ℕ) (targets : Targets) (reader : Reader) (lines : Bool) → length source < 2 ^ 32 → IsUtf8 source → view_of reader ≡ fresh_view lines reader.ends → reader.brackets.items ≡ []

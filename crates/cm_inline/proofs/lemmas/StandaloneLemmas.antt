@@ -64,10 +64,7 @@ span-placed source at start inside rest e left boundary =
     let size : start + length inside - start ≡ length inside = omega arith in
     let tick : begins_with 96 (drop (start + length inside) source) ≡ true = ap (begins_with 96) (sym (drop-drop (length inside) start source)) ∙ w.tick in
     let found = begins-at 96 source (start + length inside) tick in
-    record {
-      is = ap (λ n. take n (drop start source)) size ∙ w.front;
-      between = (omega arith, boundary, IsCharBoundary-before_ascii source (start + length inside) found.0 (omega (arith, found.2)));
-    }
+    search rules
 
 -- what is between `<` and `>`
 

@@ -36,10 +36,7 @@ step-on rules defined source at end items within further rest =
     let before = reverse (take at source) in
     let taken = slice_range source (at + 1) end in
     let behind : drop (at + 1) source ≡ taken ++ drop end source = slice-front source (at + 1) end (omega (arith, further)) in
-    ap (λ t. items_after rules defined zero before t items) (drop_more source at 0 within ∙ ap (λ t. b ∷ t) behind)
-    ∙ reading_goes_on rules defined before b taken (drop end source) items (ap (λ t. (item_step rules defined before b t items).rest) (sym behind) ∙ rest)
-    ∙ ap (λ t. items_after rules defined zero (reverse taken ++ b ∷ before) (drop end source) (item_step rules defined before b t items).items) (sym behind)
-    ∙ ap (λ p. items_after rules defined zero p (drop end source) (step_at rules defined source at items).items) (before-one source at end further within)
+    grind (arith, nat_tests, drop_more, reading_goes_on, before-one)
 
 pub ahead-step : (rules : Rules) (defined : Defined) (source : List ℕ) (so_far more : List pairing.Item) (at end : ℕ) → at < length source → at < end
     → step_at rules defined source at (reverse so_far) ≡ record { items = reverse more; rest = drop end source }
