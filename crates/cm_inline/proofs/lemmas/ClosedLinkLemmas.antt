@@ -94,7 +94,8 @@ free-marks : (lines : Bool) (source : List ℕ) (targets : Targets) (held : List
     → AreFree n (events_of runs (pairs_in ps) (parts_between source targets links from to ms))
 unfolding parts_between events_of
 free-marks lines source targets held links n runs ps from to [] high laid = free-texts n runs (pairs_in ps) (slice_range source from to)
-free-marks lines source targets held links n runs ps from to (m ∷ ms) high laid = search (rules, events-append, free-append, free-texts, free-mark, (free-marks lines source targets held links n runs ps m.end to ms high laid.3))
+free-marks lines source targets held links n runs ps from to (m ∷ ms) high laid = search
+    (rules, events-append, free-append, free-texts, free-mark, (free-marks lines source targets held links n runs ps m.end to ms high laid.3))
 
 made-lower : (runs : List PairedRun) (pairs : List Pair) (low higher : ℕ) (parts : List Part) (item : Item) (high : ℕ) → low ≤ higher → IsMade runs pairs higher parts item high → IsMade runs pairs low parts item high
 made-lower runs pairs low higher parts item high p m = search (rules, low, rising-lower)

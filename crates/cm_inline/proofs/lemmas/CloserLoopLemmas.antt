@@ -37,7 +37,8 @@ held-run parts first c s before e w g =
     let fs = so_far parts first s in
     let f : Found c e g.below fs before = stacked-found c g.passed e g.below fs before (subst (λ es. Stacked es fs before) g.whole w.waits.stacked) g.none in
     let such = λ (n : ℕ) (r : Run). r ≡ (get_or s.runs n no_paired_run).run in
-    let all : AreHeld s.runs fs = such-append such (events_of s.runs s.pairs parts) (ends (drop first s.pairs)) (such-parts such s.runs s.pairs parts (all-held s.runs parts) w.marked) (such-none such _ (ends-none (drop first s.pairs))) in
+    let all : AreHeld s.runs fs = such-append such (events_of s.runs s.pairs parts) (ends (drop first s.pairs)) (such-parts such s.runs s.pairs parts (all-held s.runs parts) w.marked)
+        (such-none such _ (ends-none (drop first s.pairs))) in
     held-at s.runs f.front f.back e.place e.run (subst (AreHeld s.runs) f.events all)
 
 -- so the pair is written as the definition has it

@@ -236,7 +236,8 @@ pub low-parts : (n : ℕ) (runs : List PairedRun) (pairs : List Pair) (ms : List
 low-parts n runs pairs ms u h = such-parts (λ k r. k < n) runs pairs ms (under-all n n ms (omega arith) u) h
 
 low-so-far : (n first : ℕ) (s : State) (parts : List Part) → AreUnder n parts → AreParts s.runs s.pairs parts → AreLow n (so_far parts first s)
-low-so-far n first s parts u h = such-append (λ k r. k < n) (events_of s.runs s.pairs parts) (ends (drop first s.pairs)) (low-parts n s.runs s.pairs parts u h) (such-none (λ k r. k < n) _ (ends-none (drop first s.pairs)))
+low-so-far n first s parts u h =
+    such-append (λ k r. k < n) (events_of s.runs s.pairs parts) (ends (drop first s.pairs)) (low-parts n s.runs s.pairs parts u h) (such-none (λ k r. k < n) _ (ends-none (drop first s.pairs)))
 
 -- So its part is put behind.
 pub put-finished : (parts : List Part) (old : State) (number left : ℕ) (run : Run) (had : List Item) (s : State) → number < length s.runs → number ≡ s.list.next → CloserDone parts old run had s left
@@ -275,7 +276,9 @@ pub next-put : (parts : List Part) (old : State) (run : Run) (had : List Item) (
     → WaitAsOpeners (p.events ++ Rest number (record run { left = left }) ∷ []) after list s.bottoms → ((kinds : ℕ) → kind run < kinds → spent kinds list s.bottoms ≤ spent kinds old.list old.bottoms + (kinds + 1 + run.left))
     → old.list.looks + items_emphases after ≤ list.looks + items_emphases had → PassGoesOn parts old run had (record s { list = list }) number
 next-put parts old run had s number left list after p next is waits paid made = search (rules,
-    (subst (PartsHold (parts ++ Numbered number ∷ []) (length s.pairs) (record s { list = list })) is (record { waits = subst (λ fs. WaitAsOpeners fs after list s.bottoms) (sym p.whole) waits; marked = p.marked; under = under-append number list.next parts (Numbered number ∷ []) (omega (arith, next)) p.under (omega (arith, next), tt); rising = subst (Rising 0) (sym p.whole) p.rising; early = omega arith; })),
+    (subst (PartsHold (parts ++ Numbered number ∷ []) (length s.pairs) (record s { list = list })) is
+        (record { waits = subst (λ fs. WaitAsOpeners fs after list s.bottoms) (sym p.whole) waits; marked = p.marked; under = under-append number list.next parts (Numbered number ∷ [])
+        (omega (arith, next)) p.under (omega (arith, next), tt); rising = subst (Rising 0) (sym p.whole) p.rising; early = omega arith; })),
     paid, made, ap items_emphases (sym is), ap starts_in p.whole, so-far-starts (parts ++ Numbered number ∷ []) (length s.pairs) s,
     starts-append p.events (Rest number (record run { left = left }) ∷ []))
 

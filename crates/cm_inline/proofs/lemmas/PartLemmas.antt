@@ -95,7 +95,8 @@ open-run number count n tag pairs r = search (rules, open-append, open-absent, a
 -- one part, and all
 run-written : (number count : ℕ) (tag : Tag) (runs : List PairedRun) (pairs : List Pair) (n : ℕ) → n < length runs → (get_or runs n no_run).opened ≤ length pairs → (get_or runs n no_run).to ≤ length pairs
     → run_events (with_pair tag number runs pairs) n (get_or (with_opened number count runs pairs) n no_run) ≡ open_at number count tag (run_events pairs n (get_or runs n no_run))
-run-written number count tag runs pairs n within opened to = grind (arith, nat_tests, nat_split, reverse-append, take-append-le, length-reverse, get_or-set_other, chain-stays, cond-false, ne_eqb, open-run, get_or-set_same, chain-goes, cond-true, eq-eqb)
+run-written number count tag runs pairs n within opened to =
+    grind (arith, nat_tests, nat_split, reverse-append, take-append-le, length-reverse, get_or-set_other, chain-stays, cond-false, ne_eqb, open-run, get_or-set_same, chain-goes, cond-true, eq-eqb)
 
 pub pair-written : (number count : ℕ) (tag : Tag) (runs : List PairedRun) (pairs : List Pair) (parts : List Part) → AreParts runs pairs parts
     → events_of (with_opened number count runs pairs) (with_pair tag number runs pairs) parts ≡ open_at number count tag (events_of runs pairs parts)

@@ -89,7 +89,8 @@ reaching-first old openers from front inside a e k =
     let s = (segments-split 0 (runs_in old.runs.items) (pairs_in old.pairs.items) front inside a.segments).1 in
     let r = reached-first (runs_in old.runs.items) (pairs_in old.pairs.items) old.openers.looks n inside s a.marked in
     search (rules, n, inside, (sym (inside-waits from old front inside a)),
-        (subst (λ es. Reached old.openers.looks inside (record { runs = runs_in old.runs.items; pairs = pairs_in old.pairs.items; list = record { entries = es; looks = openers.looks; next = n }; bottoms = zeros }) [] inside []) (sym e) (subst (λ l. Reached old.openers.looks inside (record { runs = runs_in old.runs.items; pairs = pairs_in old.pairs.items; list = record { entries = []; looks = l; next = n }; bottoms = zeros }) [] inside []) (sym k) r)))
+        (subst (λ es. Reached old.openers.looks inside (record { runs = runs_in old.runs.items; pairs = pairs_in old.pairs.items; list = record { entries = es; looks = openers.looks; next = n }; bottoms = zeros }) [] inside []) (sym e)
+            (subst (λ l. Reached old.openers.looks inside (record { runs = runs_in old.runs.items; pairs = pairs_in old.pairs.items; list = record { entries = []; looks = l; next = n }; bottoms = zeros }) [] inside []) (sym k) r)))
 
 -- a run
 
@@ -188,7 +189,8 @@ passes-at old new from next front inside before entries bs a r stays same starts
     let s : State = record { runs = runs; pairs = pairs; list = record { entries = entries; looks = new.openers.looks; next = next }; bottoms = bs } in
     let behind : AreSegments (runs_in old.runs.items) (pairs_in old.pairs.items) n inside = (segments-split 0 (runs_in old.runs.items) (pairs_in old.pairs.items) front inside a.segments).1 in
     search (rules, stays, same, (end-stands old.openers.looks inside s before r),
-        (rising-raised n 0 runs pairs (all_parts inside) (all-parts (λ k. n ≤ k) inside (segments-from n n (runs_in old.runs.items) (pairs_in old.pairs.items) inside (omega arith) behind)) r.holds.marked (rising-done (all_parts inside) s before r.holds)),
+        (rising-raised n 0 runs pairs (all_parts inside) (all-parts (λ k. n ≤ k) inside
+            (segments-from n n (runs_in old.runs.items) (pairs_in old.pairs.items) inside (omega arith) behind)) r.holds.marked (rising-done (all_parts inside) s before r.holds)),
         (subst (λ k. AreUnder k (all_parts inside)) (length-map new.runs.items paired_run) (parts-under runs pairs (all_parts inside) r.holds.marked)), starts,
         (w ∙ ap (take from) a.waiting ∙ take-append-le from (numbers_in front) (numbers_in inside) (omega (arith, a.place)) ∙ take_all from (numbers_in front) (omega (arith, a.place))),
         (end-looks old.openers.looks inside s before r))

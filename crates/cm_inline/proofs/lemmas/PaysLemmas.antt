@@ -140,4 +140,4 @@ most-of strike looks paid ahead total p = grind (arith, nat_tests)
 -- so the looks are no more than the runs allow
 pub pays-most : (rules : Rules) (defined : Defined) (source : List ℕ) (so_far : List items.Item) (at looks : ℕ) → Pays rules defined source so_far at looks
     → looks + allowance (kinds_by rules) so_far ≤ looks_at_most rules * characters_of (runs_of rules defined source)
-pays-most rules defined source so_far at looks p = search (rules, most-of)
+pays-most rules defined source so_far at looks p = search most-of

@@ -55,7 +55,7 @@ fresh-read source targets lines ends short utf8 knows =
 pub nothing-read : (rules : Rules) (source : List ℕ) (targets : Targets) (reader : Reader) (lines : Bool) → length source < 2 ^ 32 → IsUtf8 source → view_of reader ≡ fresh_view lines reader.ends → reader.brackets.items ≡ []
     → reader.runs.openers.looks ≡ 0 → Knows source reader.ends → Reading rules source targets 0 reader
 unfolding items_in
-nothing-read rules source targets reader lines short utf8 fresh brackets looks knows = search (rules,
+nothing-read rules source targets reader lines short utf8 fresh brackets looks knows = search (
     (subst (λ bs. IsRead source targets 0 (view_of reader) (reverse bs) []) (sym brackets) (subst (λ v. IsRead source targets 0 v [] []) (sym fresh) (fresh-read source targets lines reader.ends short utf8 knows))),
     (ahead-start rules (defined_in targets) source), (nothing-pays rules (defined_in targets) source [] reader.runs.openers.looks refl looks))
 
@@ -367,7 +367,8 @@ module _ (source : List ℕ) (targets : Targets) (v : View) (bs : List Bracket) 
       let view : more_view v marks ends ≡ put_view v source at end atom ends =
       same-view (more_view v marks ends) (put_view v source at end atom ends) refl (ap (λ t. v.marks ++ t) (sym same)) (sym (append-nil v.runs) ∙ ap (λ t. v.runs ++ t) (sym runs)) (sym (append-nil v.waiting) ∙ ap (λ t. v.waiting ++ t) (sym numbers)) refl refl refl refl in
       search (rules, more, (items-append segments more),
-          (subst (λ b. IsRead source targets end (put_view v source at end atom ends) (reverse b ++ bs) (segments ++ more)) (sym brackets) (subst (λ w. IsRead source targets end w bs (segments ++ more)) view (more-read source targets v bs segments at end marks parts (item_in source at end atom) ends m knows r))))
+          (subst (λ b. IsRead source targets end (put_view v source at end atom ends) (reverse b ++ bs) (segments ++ more)) (sym brackets)
+              (subst (λ w. IsRead source targets end w bs (segments ++ more)) view (more-read source targets v bs segments at end marks parts (item_in source at end atom) ends m knows r))))
 
   pub put-read : (rules : Rules) (atom : Atom) → IsAtom rules source at (item_in source at end atom) end → IsThere source at end atom → PutRead source targets at end v bs segments atom ends
   unfolding items_in
@@ -416,7 +417,10 @@ put-goes rules source targets at end old new within p g =
     let brackets : reverse new.brackets.items ≡ reverse more ++ bs = ap reverse p.brackets ∙ reverse-append old.brackets.items more in
     let items = read.items in
     let looks : new.runs.openers.looks ≡ old.runs.openers.looks = ap (λ o. o.looks) p.openers in
-    search (rules, (g.segments ++ read.more),
-        (subst (λ b. IsRead source targets end (view_of new) b (g.segments ++ read.more)) (sym brackets) (subst (λ w. IsRead source targets end w (reverse more ++ bs) (g.segments ++ read.more)) (sym view) read.read)),
+    search (
+        (subst (λ b. IsRead source targets end (view_of new) b (g.segments ++ read.more)) (sym brackets)
+            (subst (λ w. IsRead source targets end w (reverse more ++ bs) (g.segments ++ read.more)) (sym view) read.read)),
         (ap (λ t. ahead rules (defined_in targets) source t end) items ∙ ahead-atom rules (defined_in targets) source (items_in g.segments) at (item_in source at end p.atom) end within is ∙ g.goes),
-        (subst (λ n. Pays rules (defined_in targets) source (items_in (g.segments ++ read.more)) end n) (sym looks) (subst (λ t. Pays rules (defined_in targets) source t end old.runs.openers.looks) (sym items) (atom-more-pays rules (defined_in targets) source (items_in g.segments) at (item_in source at end p.atom) end old.runs.openers.looks within is g.pays))))
+        (subst (λ n. Pays rules (defined_in targets) source (items_in (g.segments ++ read.more)) end n) (sym looks)
+            (subst (λ t. Pays rules (defined_in targets) source t end old.runs.openers.looks) (sym items)
+            (atom-more-pays rules (defined_in targets) source (items_in g.segments) at (item_in source at end p.atom) end old.runs.openers.looks within is g.pays))))

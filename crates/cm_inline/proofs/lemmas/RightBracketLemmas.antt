@@ -37,7 +37,7 @@ bracket-text source at utf8 stands = search (rules, (IsCharBoundary-after_ascii 
 pub goes-on : (rules : Rules) (source : List ℕ) (targets : Targets) (at end : ℕ) (old new : Reader) → Stands source at 93 → at < end → (g : Reading rules source targets at old) → (segments : List Segment) → IsReadTo source targets end new segments
     → closed_at rules (defined_in targets) source (items_in g.segments) at ≡ record { items = reverse (items_in segments); rest = drop end source } → Keeps old.runs.openers.looks (items_in g.segments) new.runs.openers.looks (items_in segments)
     → Reading rules source targets end new
-goes-on rules source targets at end old new stands further g segments read closed keeps = search (rules, segments, read,
+goes-on rules source targets at end old new stands further g segments read closed keeps = search (segments, read,
     (ahead-bracket rules (defined_in targets) source (items_in g.segments) (items_in segments) at end stands further closed ∙ g.goes),
     (closed-pays rules (defined_in targets) source (items_in g.segments) (items_in segments) at end old.runs.openers.looks new.runs.openers.looks stands g.pays further keeps closed))
 

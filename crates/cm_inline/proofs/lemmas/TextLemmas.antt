@@ -121,7 +121,9 @@ text-to-spaces source at end within e some feed =
     search (rules, (IsCharBoundary-before_ascii source (at + length left) inside first),
         (ap (list_all is_plain_byte) part ∙ front-all is_plain_byte left (replicate parts.count 32) (sym (ap (list_all is_plain_byte) parts.is) ∙ found.plain)),
         (ap (list_all (stays_text true)) part ∙ front-all (stays_text true) left (replicate parts.count 32) (sym (ap (list_all (stays_text true)) parts.is) ∙ found.stays)),
-        (ap (λ t. not ((begins_with 32 (drop (at + length left) source) || begins_with 10 (drop (at + length left) source)) && ends_with 32 t)) part ∙ ap (λ v. not ((begins_with 32 (drop (at + length left) source) || begins_with 10 (drop (at + length left) source)) && v)) parts.ended ∙ (elim (begins_with 32 (drop (at + length left) source) || begins_with 10 (drop (at + length left) source)) as (λ next. not (next && false) ≡ true) [ true ↦ refl | false ↦ refl ])))
+        (ap (λ t. not ((begins_with 32 (drop (at + length left) source) || begins_with 10 (drop (at + length left) source)) && ends_with 32 t)) part
+            ∙ ap (λ v. not ((begins_with 32 (drop (at + length left) source) || begins_with 10 (drop (at + length left) source)) && v)) parts.ended
+            ∙ (elim (begins_with 32 (drop (at + length left) source) || begins_with 10 (drop (at + length left) source)) as (λ next. not (next && false) ≡ true) [ true ↦ refl | false ↦ refl ])))
 
 -- a source without markup is one text
 

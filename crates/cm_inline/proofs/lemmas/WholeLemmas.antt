@@ -63,7 +63,7 @@ bracket-at rules defined source so_far at stands = grind (arith, nat_tests, brac
 pub ahead-bracket : (rules : Rules) (defined : Defined) (source : List ℕ) (so_far more : List pairing.Item) (at end : ℕ) → Stands source at 93 → at < end
     → closed_at rules defined source so_far at ≡ record { items = reverse more; rest = drop end source }
     → ahead rules defined source more end ≡ ahead rules defined source so_far at
-ahead-bracket rules defined source so_far more at end stands further closed = search (rules, ahead-step, bracket-at)
+ahead-bracket rules defined source so_far more at end stands further closed = search (ahead-step, bracket-at)
 
 -- items with one more, in pieces
 pieces-more : (source : List ℕ) (so_far : List pairing.Item) (item : pairing.Item) → in_pieces (so_far ++ item ∷ []) ≡ in_pieces so_far ++ pieces_of item
@@ -106,7 +106,7 @@ ahead-start rules defined source = refl
 
 pub ahead-end : (rules : Rules) (defined : Defined) (source : List ℕ) (so_far : List pairing.Item) (at : ℕ) → length source ≤ at → ahead rules defined source so_far at ≡ in_pieces so_far
 unfolding items_after
-ahead-end rules defined source so_far at past = search (rules, drop_all, reverse-reverse)
+ahead-end rules defined source so_far at past = search (drop_all, reverse-reverse)
 
 -- the inlines of items that are a source's, in pieces
 pub inlines-are : (rules : Rules) (defined : Defined) (source : List ℕ) (items : List pairing.Item) → in_pieces items ≡ in_pieces (inlines.items_of rules defined source) → emphasis_of items ≡ inlines_of rules defined source
