@@ -4,7 +4,7 @@ use Rattle.cm_inline.proofs.lemmas.Words.{reverse, Option, Some, None, codes, re
 use Rattle.cm_inline.proofs.lemmas.Words.{IsUtf8, if◌then◌else◌, encode_utf8_all, slice_range, list_all, IsCharBoundary, eqb-true, drop_more}
 use Rattle.cm_inline.proofs.lemmas.Words.{IsCharBoundary-after_ascii, Rules, is_ascii_punct, chars_of, Chars, begins_with, run_length, after_run, after_word, Reading}
 use Rattle.cm_inline.proofs.lemmas.Words.{Autolink, followed_autolink, raw_html, before, one_line, stripped, whole_of, link_of, markup_atom, atom_at, none-some}
-use Rattle.cm_inline.proofs.lemmas.Words.{begins-at, not-same, Marker, Tilde, DelimiterRun, nat_tests, rules}
+use Rattle.cm_inline.proofs.lemmas.Words.{begins-at, not-same, Marker, Tilde, DelimiterRun, nat_tests, rules, replicate}
 use Rattle.std.specs.Prelude.{nat_le}
 use Rattle.cm_text.specs.References.{reference, reference_at}
 use Rattle.cm_tree.specs.declared.tree.Inline.TheVariants as inline
@@ -26,7 +26,6 @@ use Rattle.cm_inline.specs.Closers.{kinds_with, kinds_by}
 use Rattle.cm_inline.specs.Emphases.{emphases_of}
 use Rattle.cm_inline.specs.steps.Searching.{kind}
 use Rattle.cm_inline.specs.steps.Reads.{Stands, atom_in, is_break_byte, item_for, IsNew, IsAtom, Begins}
-use Rattle.std.proofs.Common.{replicate}
 
 -- the source from the place on
 front : (source : List ℕ) (at b : ℕ) → Stands source at b → drop at source ≡ b ∷ drop (at + 1) source

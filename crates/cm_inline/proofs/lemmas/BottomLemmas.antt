@@ -1,12 +1,13 @@
 -- Closers of one kind match the same openers, and the search for an opener passes over items of which none is one.
 use Rattle.cm_inline.proofs.lemmas.Words.{◌≡◌, inl, inr, ℕ, ◌+◌, ◌<◌, Bool, true, false, cond, ◌&&◌, ◌==◌, List, [], ◌∷◌, ◌++◌, reverse, Some, None, refl, sym, ap}
 use Rattle.cm_inline.proofs.lemmas.Words.{◌∙◌, arith, append-nil, Run, delimiters_match, Item, Characters, Finished, Linked, Delimiters, Opener, nearest_opener}
-use Rattle.cm_inline.proofs.lemmas.Words.{opened_at, rules, nat_tests}
+use Rattle.cm_inline.proofs.lemmas.Words.{opened_at, rules, nat_tests, not, ◌||◌}
 use Rattle.std.proofs.Common.{◌%◌}
 use Rattle.std.specs.Prelude.{⊤}
 use Rattle.cm_scan.proofs.lemmas.inlines.PairingLemmas.{reverse-first, nearest-found, nearest-passes}
 use Rattle.cm_inline.specs.Closers.{kinds_of_one, kinds_without_tildes, all_kinds}
 use Rattle.cm_inline.specs.steps.Searching.{kind, IsMarked}
+use Rattle.cm_scan.specs.inlines.Delimiters.{is_multiple_of_3}
 
 -- closers of stars or underscores with these in common
 record IsAlike (c d : Run) : Type 0 where
@@ -22,7 +23,8 @@ alike-match c d o k = search rules
 -- a closer of tildes matches each opener of tildes
 tildes-match : (c o : Run) → c.character ≡ 126 → delimiters_match c o ≡ (126 == o.character && true)
 unfolding delimiters_match
-tildes-match c o e = search rules
+tildes-match c o e =
+    ap (λ x. x == o.character && (x == 126 || not (c.opens && c.closes || o.opens && o.closes) || not (is_multiple_of_3 (c.whole + o.whole)) || (is_multiple_of_3 c.whole && is_multiple_of_3 o.whole))) e
 
 -- the number of a kind, by its parts
 abbrev number : (tilde underscore opens : Bool) → ℕ → ℕ

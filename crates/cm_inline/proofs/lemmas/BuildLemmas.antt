@@ -1,6 +1,6 @@
 -- What inlines events build, one after another.
 use Rattle.cm_inline.proofs.lemmas.Words.{◌≡◌, ℕ, suc, ◌+◌, ◌-◌, ◌<◌, true, List, [], ◌∷◌, ◌++◌, sym, ap, ◌∙◌, arith, append_assoc, list_all, and_parts, Emphasis}
-use Rattle.cm_inline.proofs.lemmas.Words.{rules, replicate}
+use Rattle.cm_inline.proofs.lemmas.Words.{rules}
 use Rattle.cm_tree.specs.declared.tree.Inline.TheVariants as inlines
 use Rattle.cm_inline.specs.declared.runs.Run as held
 use Rattle.cm_inline.specs.declared.runs.Pair as made
@@ -10,14 +10,22 @@ use Rattle.cm_inline.specs.steps.Building.{opened, closed}
 use Rattle.cm_inline.specs.steps.Marks.{text_event, texts, stays_text}
 use Rattle.cm_inline.specs.steps.Runs.{byte_of, tag_in, pairs_in, paired_run}
 use Rattle.cm_inline.proofs.lemmas.EventLemmas.{build-append}
+use Rattle.std.proofs.lemmas.List.{append-nil}
+use Rattle.std.specs.Prelude.{replicate}
 
 -- text between marks, without a line feed
 
 text-none : (m : Built) → add_text m [] ≡ m
-text-none m = search rules
+text-none m = ap (λ t. with_text t) (append-nil m.text)
+  where
+    with_text : List ℕ → Built
+    with_text t = record { content = m.content; text = t; outer = m.outer }
 
 pub text-more : (m : Built) (a b : List ℕ) → add_text (add_text m a) b ≡ add_text m (a ++ b)
-text-more m a b = search (rules, append_assoc)
+text-more m a b = ap (λ t. with_text t) (append_assoc m.text a b)
+  where
+    with_text : List ℕ → Built
+    with_text t = record { content = m.content; text = t; outer = m.outer }
 
 byte-built : (m : Built) (b : ℕ) → stays_text true b ≡ true → build_one m (text_event b) ≡ add_text m (b ∷ [])
 byte-built m b h = search rules

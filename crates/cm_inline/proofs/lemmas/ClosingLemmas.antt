@@ -2,7 +2,7 @@
 use Rattle.cm_inline.proofs.lemmas.Words.{◌≡◌, inr, ℕ, suc, ◌+◌, ◌<◌, ◌≤◌, Bool, true, false, cond, ◌==◌, nat_le, List, [], ◌∷◌, ◌++◌, length, drop, reverse, get_or}
 use Rattle.cm_inline.proofs.lemmas.Words.{set, Some, None, refl, sym, ap, subst, ◌∙◌, arith, append-nil, append_assoc, length-append, reverse-append, get_or-set_same}
 use Rattle.cm_inline.proofs.lemmas.Words.{get_or-set_other, length-set, take_all, cond-false, ne_eqb, leb-true, le-leb, Run, Item, Delimiters, Opened, nearest_opener}
-use Rattle.cm_inline.proofs.lemmas.Words.{used, without, up_to_pair, passed, opened_at, rules, nat_tests}
+use Rattle.cm_inline.proofs.lemmas.Words.{used, without, up_to_pair, passed, opened_at, rules, nat_tests, Finished, emphasised, settled}
 use Rattle.cm_inline.specs.steps.Entries.{Entry, Listed}
 use Rattle.cm_inline.specs.steps.Openers.{spent}
 use Rattle.cm_inline.specs.steps.Pairs.{items_emphases}
@@ -23,10 +23,12 @@ use Rattle.cm_inline.proofs.lemmas.PartLemmas.{ends-none, pair-written, open-sta
 use Rattle.cm_inline.proofs.lemmas.ReadingLemmas.{starts-append}
 use Rattle.cm_inline.proofs.lemmas.WaitLemmas.{after_pair, waits-pairs, with_looks, waits-fails, passed_by, waits-opener, waits-text, waits-gone}
 use Rattle.cm_inline.proofs.lemmas.LaidLemmas.{events-append}
+use Rattle.cm_inline.specs.steps.pairing.Stacks.{taken}
 
 -- the numbers stay
 rising-put : (low number count n : ℕ) (tag : Tag) (r : Run) (fs : List Event) → low ≤ n → Rising (suc n) fs → Rising low (opened_event number count tag (Rest n r) ++ fs)
-rising-put low number count n tag r fs h g = search rules
+rising-put low number count n tag r fs h g =
+    elim (n == number) as (λ b. Rising low (cond b (Rest n (taken count r) ∷ Start tag ∷ []) (Rest n r ∷ []) ++ fs)) [ true ↦ (h, g) | false ↦ (h, g) ]
 
 pub rising-open : (low number count : ℕ) (tag : Tag) (fs : List Event) → Rising low fs → Rising low (open_at number count tag fs)
 unfolding open_at
@@ -99,7 +101,9 @@ unfolding kind
 same-kind left run c e = ap kind e
 
 last-made : (found : Opened) (c : Run) → last_depth (reverse (up_to_pair found c)) ≡ items_depth found.inside + 1
-last-made found c = search (rules, reverse-append, emphasised-depth, settled-items)
+last-made found c =
+    let n = used found.opener c in
+    ap last_depth (reverse-append (found.before ++ without n found.opener) (Finished (emphasised c.character n (settled found.inside)) ∷ [])) ∙ emphasised-depth c.character n (settled found.inside) ∙ ap (λ d. d + 1) (settled-items found.inside)
 
 -- a pair that leaves something of the closer
 pub closing-further : (parts : List Part) (old : State) (run c rest : Run) (had : List Item) (s : State) (e : Entry) → c.closes ≡ true → CloserGoesOn parts old run had s c → (g : FoundBy c (get_or s.bottoms (kind c) 0) s.list.entries e)
@@ -145,7 +149,8 @@ closing-ends parts old run c had s e h go g left =
         reversed-hold (up_to_pair found c))
 
 not-none : (n : ℕ) → 1 ≤ n → nat_le n 0 ≡ false
-not-none n p = search (rules, leb-true)
+not-none n p =
+    (elim (nat_le n 0) as (λ b. nat_le n 0 ≡ b → nat_le n 0 ≡ false) [ true ↦ λ h. let few : n ≤ 0 = leb-true n 0 h in absurd (omega (arith, few, p)) | false ↦ λ h. h ]) refl
 
 -- no opener is left: its bottom is raised
 abbrev pub raised : Run → State → State

@@ -115,10 +115,15 @@ inner n bs = grind (arith, nat_tests, take-take)
 
 -- its length and its ends
 pub part-length : (bs : List ℕ) (from to : ℕ) → from ≤ to → to ≤ length bs → length (slice_range bs from to) ≡ to - from
-part-length bs from to low high = search (rules, length-drop, length-take-le)
+part-length bs from to low high =
+    let fits : to - from ≤ length (drop from bs) = omega (arith, length-drop from bs, high, low) in
+    length-take-le (to - from) (drop from bs) fits
 
 pub part-first : (bs : List ℕ) (from to : ℕ) → 1 ≤ to - from → get_or (slice_range bs from to) 0 0 ≡ get_or bs from 0
-part-first bs from to some = search (rules, get_or-take, get_or-drop)
+part-first bs from to some =
+    let less : 0 < to - from = omega (arith, some) in
+    let place : from + 0 ≡ from = omega arith in
+    get_or-take (to - from) (drop from bs) 0 0 less ∙ get_or-drop from bs 0 0 ∙ ap (λ n. get_or bs n 0) place
 
 pub part-last : (bs : List ℕ) (from to : ℕ) → from ≤ to → to ≤ length bs → 1 ≤ to - from → get_or (slice_range bs from to) (length (slice_range bs from to) - 1) 0 ≡ get_or bs (to - 1) 0
 part-last bs from to low high some = search (rules, part-length, get_or-take, get_or-drop)

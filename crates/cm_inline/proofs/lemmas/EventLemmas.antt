@@ -1,7 +1,7 @@
 -- A start and an end round events that stand for items.
 use Rattle.cm_inline.proofs.lemmas.Words.{◌≡◌, ℕ, List, [], ◌∷◌, ◌++◌, zero, refl, sym, ap, ◌∙◌, append_assoc, map-append, Inline, Run, Item, Characters, Finished}
-use Rattle.cm_inline.proofs.lemmas.Words.{Linked, Delimiters, Opener, text_before, settled, settled_after, emphasised, rules, nat_tests, arith}
-use Rattle.cm_inline.specs.steps.pairing.Events.{Event, Rest, Tag, Start, End, Built, made_of, tag_of, ended, innermost, others, build_one, build, leaf, leaves, Means, nothing_built, inlines_of}
+use Rattle.cm_inline.proofs.lemmas.Words.{Linked, Delimiters, Opener, text_before, settled, settled_after, emphasised, rules, nat_tests, arith, replicate, append-nil}
+use Rattle.cm_inline.specs.steps.pairing.Events.{Event, Rest, Tag, Start, End, Built, made_of, tag_of, ended, innermost, others, build_one, build, leaf, leaves, Means, nothing_built, inlines_of, add_text}
 
 pub build-append : (m : Built) (fs gs : List Event) → build m (fs ++ gs) ≡ build (build m fs) gs
 unfolding build
@@ -10,7 +10,8 @@ build-append m (f ∷ fs) gs = build-append (build_one m f) fs gs
 
 -- events behind one another stand for items behind one another
 pub means-append : (fs gs : List Event) (xs ys : List Item) → Means fs xs → Means gs ys → Means (fs ++ gs) (xs ++ ys)
-means-append fs gs xs ys f g m = search (rules, build-append, map-append)
+means-append fs gs xs ys f g m =
+    build-append m fs gs ∙ g (build m fs) ∙ ap (λ t. build t (leaves ys)) (f m) ∙ sym (build-append m (leaves xs) (leaves ys)) ∙ ap (build m) (sym (map-append leaf xs ys))
 
 pub means-rest : (number : ℕ) (r : Run) → Means (Rest number r ∷ []) (Delimiters r ∷ [])
 unfolding build
@@ -30,7 +31,9 @@ leaves-outer (Delimiters r ∷ items) m = leaves-outer items (build_one m (leaf 
 leaves-outer (Opener b s ∷ items) m = leaves-outer items (build_one m (leaf (Opener b s)))
 
 behind : (content more : List Inline) (text : List ℕ) (i : Inline) → (content ++ text_before text (i ∷ [])) ++ more ≡ content ++ text_before text (i ∷ more)
-behind content more text i = search (rules, text-split, append_assoc)
+behind content more text i =
+    ap (λ t. (content ++ t) ++ more) (text-split text (i ∷ [])) ∙ append_assoc content (text_before text [] ++ i ∷ []) more
+    ∙ ap (λ t. content ++ t) (append_assoc (text_before text []) (i ∷ []) more ∙ sym (text-split text (i ∷ more)))
 
 pub leaves-settle : (items : List Item) (m : Built) → ended (build m (leaves items)) ≡ m.content ++ settled_after m.text items
 unfolding build settled_after
@@ -44,7 +47,10 @@ leaves-settle (Opener b s ∷ items) m = leaves-settle items (build_one m (leaf 
 -- a run of which nothing is left stands for nothing
 pub means-empty : (number : ℕ) (r : Run) → r.left ≡ zero → Means (Rest number r ∷ []) []
 unfolding build
-means-empty number r e m = search rules
+means-empty number r e m = ap (λ n. add_text m (replicate n r.character)) e ∙ ap (λ t. text t) (append-nil m.text)
+  where
+    text : List ℕ → Built
+    text t = record { content = m.content; text = t; outer = m.outer }
 
 -- a start and an end
 pub means-wrap : (fs : List Event) (inside : List Item) (tag : Tag) → Means fs inside → Means (Start tag ∷ fs ++ End tag ∷ []) (Finished (made_of tag (settled inside)) ∷ [])

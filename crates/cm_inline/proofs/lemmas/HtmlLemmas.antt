@@ -1,7 +1,7 @@
 -- Texts in HTML.
 use Rattle.cm_inline.proofs.lemmas.Words.{◌≡◌, ℕ, zero, suc, ◌+◌, ◌-◌, ◌<◌, true, false, List, [], ◌∷◌, ◌++◌, refl, sym, ap, ◌∙◌, arith, append_assoc, Result}
-use Rattle.cm_inline.proofs.lemmas.Words.{list_all, flat_map-append, and_parts, escape_byte, escape, one_line, Marker, Star, Tilde, rules, nat_tests, replicate}
-use Rattle.std.specs.Prelude.{OnOk}
+use Rattle.cm_inline.proofs.lemmas.Words.{list_all, flat_map-append, and_parts, escape_byte, escape, one_line, Marker, Star, Tilde, rules, nat_tests}
+use Rattle.std.specs.Prelude.{replicate, OnOk}
 use Rattle.cm_inline.specs.declared.delimiter_runs.Marker.TheVariants.{Underscore}
 use Rattle.cm_inline.specs.steps.Marks.{stays_text}
 use Rattle.cm_inline.specs.steps.Runs.{byte_of}
@@ -21,7 +21,9 @@ run-next done b left counter below =
 
 -- a line, with the space for its line feed
 pub line-html : (html line rest whole : List ℕ) → line ++ 32 ∷ one_line rest ≡ whole → ((html ++ escape line) ++ 32 ∷ []) ++ escape (one_line rest) ≡ html ++ escape whole
-line-html html line rest whole e = search (rules, append_assoc, flat_map-append)
+line-html html line rest whole e =
+    append_assoc (html ++ escape line) (32 ∷ []) (escape (one_line rest)) ∙ append_assoc html (escape line) (32 ∷ escape (one_line rest))
+    ∙ ap (λ t. html ++ t) (sym (flat_map-append escape_byte line (32 ∷ one_line rest)) ∙ ap escape e)
 
 -- a byte of text is its own HTML
 pub byte-html : (b : ℕ) → stays_text false b ≡ true → escape_byte b ≡ b ∷ []

@@ -60,7 +60,9 @@ abbrev pub Later : List HeldRun → List HeldRun → Type 0
 Later old new = (number : ℕ) → number < length old → (number < length new) × ((run_at new number).run.marker ≡ (run_at old number).run.marker) × ((run_at new number).run.whole ≡ (run_at old number).run.whole)
 
 pub later-more : (runs more : List HeldRun) → Later runs (runs ++ more)
-later-more runs more number h = search (rules, get_or_append_left, length-append)
+later-more runs more number h =
+    let same = get_or_append_left runs more _ number h in
+    (omega (arith, h, length-append runs more), ap (λ (r : HeldRun). r.run.marker) same, ap (λ (r : HeldRun). r.run.whole) same)
 
 module _ (lines : Bool) (source : List ℕ) (targets : Targets) (runs now : List HeldRun) (links more : List Link) (later : Later runs now) where
   link-later : (number : ℕ) → IsLinkIn source targets links number → IsLinkIn source targets (links ++ more) number

@@ -3,7 +3,7 @@ use Rattle.cm_inline.proofs.lemmas.Words.{◌≡◌, ◌⊎◌, ℕ, ◌+◌, �
 use Rattle.cm_inline.proofs.lemmas.Words.{append-nil, append_assoc, length-append, reverse-append, take-append-le, length-reverse, rules, nat_tests}
 use Rattle.cm_inline.specs.steps.pairing.ClosingRuns.{AreUnder, State}
 use Rattle.cm_inline.specs.steps.pairing.Events.{Event, Rest}
-use Rattle.cm_inline.specs.steps.pairing.Parts.{Pair, PairedRun, Part, Numbered, Known, chain, ends, no_run, run_events, events_of, Rising, AreParts}
+use Rattle.cm_inline.specs.steps.pairing.Parts.{Pair, PairedRun, Part, Numbered, Known, chain, ends, no_run, run_events, events_of, Rising, AreParts, starts, ends_between}
 use Rattle.cm_inline.specs.steps.pairing.Passes.{number_after}
 use Rattle.cm_inline.specs.steps.pairing.Segments.{Segment, Waiting, Made, all_parts, numbers_in, AreSegments}
 use Rattle.cm_inline.specs.steps.pairing.States.{Grows}
@@ -33,7 +33,9 @@ chain-more [] ps n h = refl
 chain-more (q ∷ qs) ps n h = chain-stays q (qs ++ ps) n (omega (arith, h, length-append qs ps)) ∙ chain-more qs ps n h
 
 run-kept : (pairs added : List Pair) (k : ℕ) (r : PairedRun) → r.opened ≤ length pairs → r.to ≤ length pairs → run_events (pairs ++ added) k r ≡ run_events pairs k r
-run-kept pairs added k r opened to = search (rules, take-append-le, reverse-append, chain-more, length-reverse)
+run-kept pairs added k r opened to =
+    ap (λ t. ends (drop r.from t) ++ Rest k r.run ∷ starts (pairs ++ added) r.opened) (take-append-le r.to pairs added to)
+    ∙ ap (λ t. ends_between pairs r.from r.to ++ Rest k r.run ∷ t) (ap (λ t. chain t r.opened) (reverse-append pairs added) ∙ chain-more (reverse added) (reverse pairs) r.opened (omega (arith, opened, length-reverse pairs)))
 
 pub events-kept : (P : ℕ → Type 0) (runs now : List PairedRun) (pairs added : List Pair) (ms : List Part) → ((k : ℕ) → P k → get_or now k no_run ≡ get_or runs k no_run) → AllOf P ms → AreParts runs pairs ms → events_of now (pairs ++ added) ms ≡ events_of runs pairs ms
 unfolding events_of

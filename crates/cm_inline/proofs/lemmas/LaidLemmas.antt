@@ -3,7 +3,7 @@ use Rattle.cm_inline.proofs.lemmas.Words.{◌≡◌, ℕ, zero, suc, ◌+◌, �
 use Rattle.cm_inline.proofs.lemmas.Words.{Targets, Mark, Link, Reader, rules}
 use Rattle.cm_inline.specs.declared.runs.Run as held
 use Rattle.cm_inline.specs.steps.pairing.Parts.{Pair, PairedRun, Part, events_of}
-use Rattle.cm_inline.specs.steps.Marks.{texts, parts_between, IsOfKind, AreLaid, IsSettled}
+use Rattle.cm_inline.specs.steps.Marks.{texts, parts_between, IsOfKind, AreLaid, IsSettled, part_of}
 use Rattle.cm_inline.specs.steps.Runs.{runs_in, pairs_in}
 use Rattle.cm_inline.specs.steps.Standalone.{IsBetween}
 use Rattle.cm_inline.specs.steps.Writing.{mark_numbered, mark_events, events_from, IsMarkIn}
@@ -18,7 +18,8 @@ pub events-next : (source : List ℕ) (targets : Targets) (reader : Reader) (fro
     → events_from source targets reader from (m ∷ ms)
     ≡ events_of (runs_in reader.runs.runs.items) (pairs_in reader.runs.pairs.items) (texts (slice_range source from m.at)) ++ (mark_events source targets reader m ++ events_from source targets reader m.end ms)
 unfolding events_of parts_between
-events-next source targets reader from m ms = search (rules, events-append)
+events-next source targets reader from m ms =
+    events-append (runs_in reader.runs.runs.items) (pairs_in reader.runs.pairs.items) (texts (slice_range source from m.at)) (part_of source targets reader.links.items m ∷ parts_between source targets reader.links.items m.end (length source) ms)
 
 pub events-last : (source : List ℕ) (targets : Targets) (reader : Reader) (from : ℕ)
     → events_from source targets reader from [] ≡ events_of (runs_in reader.runs.runs.items) (pairs_in reader.runs.pairs.items) (texts (slice_range source from (length source)))
@@ -45,4 +46,5 @@ settled-mark lines source targets reader n h settled =
 
 pub settled-behind : (lines : Bool) (source : List ℕ) (targets : Targets) (reader : Reader) (n : ℕ) → n < length reader.marks.items → IsSettled lines source targets reader
     → AreLaid lines source targets reader.runs.runs.items reader.links.items (mark_numbered reader.marks.items n).end (length source) (drop (n + 1) reader.marks.items)
-settled-behind lines source targets reader n h settled = search (rules, add-one, laid-at)
+settled-behind lines source targets reader n h settled =
+    rw add-one ((laid-at lines source targets reader.runs.runs.items reader.links.items 0 (length source) reader.marks.items n h settled.laid).behind)

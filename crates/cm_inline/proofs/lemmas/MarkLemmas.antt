@@ -2,7 +2,7 @@
 use Rattle.cm_inline.proofs.lemmas.Words.{◌≡◌, ℕ, zero, suc, ◌+◌, ◌-◌, ◌<◌, Bool, true, false, cond, List, [], ◌∷◌, ◌++◌, take, drop, get_or, codes, refl, sym, ap}
 use Rattle.cm_inline.proofs.lemmas.Words.{subst, ◌∙◌, arith, encode_utf8, if◌then◌else◌, slice_range, cond-false, get_or-take, get_or_read, get_or-map, Targets}
 use Rattle.cm_inline.proofs.lemmas.Words.{fold_out-Inline, escape, Rendered, inline_step, inlines_html, rendered, one_line, Link, Reader, Kind, Mark, Emphasis, rules}
-use Rattle.cm_inline.proofs.lemmas.Words.{nat_tests, replicate}
+use Rattle.cm_inline.proofs.lemmas.Words.{nat_tests, ◌==◌}
 use Rattle.std.proofs.lemmas.List.{append-nil, take-map, get_or-drop, drop-map}
 use Rattle.cm_tree.specs.declared.tree.Inline.TheVariants as inlines
 use Rattle.cm_tree.specs.declared.tree.Inline.TheVariants.{outs-Text, outs-Code, outs-Html, outs-Link, outs-Hard}
@@ -14,12 +14,13 @@ use Rattle.cm_inline.specs.steps.pairing.Events.{LinkTag, Start}
 use Rattle.cm_inline.specs.steps.pairing.Parts.{Pair, chain, ends, run_events, part_events}
 use Rattle.cm_inline.specs.steps.pairing.Parts as parts
 use Rattle.cm_inline.specs.steps.pairing.Readings.{start_html, end_html, Tags, Alternative, is_number, mode_of, page, write_all}
-use Rattle.cm_inline.specs.steps.Marks.{link_tag, part_of_kind, is_escaped, IsOfKind}
+use Rattle.cm_inline.specs.steps.Marks.{link_tag, part_of_kind, is_escaped, IsOfKind, no_link}
 use Rattle.cm_inline.specs.steps.Runs.{byte_of, tag_in, pairs_in, paired_run, runs_in}
 use Rattle.cm_inline.specs.steps.Standalone.{autolink, autolink_html}
 use Rattle.cm_inline.specs.steps.Writing.{Adds, mark_events, mode_after, is_end_of, IsNumbered, IsLinked, IsMarkIn}
 use Rattle.cm_inline.proofs.lemmas.HtmlLemmas.{run-html, text-html}
 use Rattle.cm_inline.proofs.lemmas.WriteLemmas.{write-append, soft-html, soft-plain}
+use Rattle.std.specs.Prelude.{replicate}
 
 -- what is written of a mark among tags
 abbrev pub Wrote : List ℕ → Targets → Reader → Mark → (html new : List ℕ) → Type 0
@@ -56,7 +57,10 @@ byte-at source at end b e = go (end - at) refl
 
 pub escaped-at : (source bytes : List ℕ) (targets : Targets) (reader : Reader) (mark : Mark) → mark.kind ≡ kinds.Escaped → IsMarkIn source targets reader mark → bytes ≡ source
     → (is_escaped (get_or bytes mark.at 0) ≡ true) × (slice_range source mark.at mark.end ≡ get_or bytes mark.at 0 ∷ [])
-escaped-at source bytes targets reader mark is m same = search (rules, known, byte-at)
+escaped-at source bytes targets reader mark is m same =
+    let k = known source targets reader mark kinds.Escaped is m in
+    let b : get_or bytes mark.at 0 ≡ k.0 = ap (λ t. get_or t mark.at 0) same ∙ byte-at source mark.at mark.end k.0 k.2 in
+    (ap is_escaped b ∙ k.1, k.2 ∙ ap (λ n. n ∷ []) (sym b))
 
 pub tags-escaped : (source bytes : List ℕ) (targets : Targets) (reader : Reader) (mark : Mark) (html new : List ℕ) → mark.kind ≡ kinds.Escaped → IsMarkIn source targets reader mark → bytes ≡ source → new ≡ html ++ escape (get_or bytes mark.at 0 ∷ [])
     → Wrote source targets reader mark html new
@@ -79,7 +83,10 @@ code-html text = simp (fold_out-Inline Rendered inline_step, outs-Code)
 pub tags-code : (source : List ℕ) (targets : Targets) (reader : Reader) (mark : Mark) (html new part : List ℕ) (from to : ℕ) → mark.kind ≡ kinds.Code from to → part ≡ slice_range source from to → new ≡ html ++ code_span_html (one_line part)
     → Wrote source targets reader mark html new
 unfolding write_all
-tags-code source targets reader mark html new part from to is of e = search (rules, of-kind, tags, code-html)
+tags-code source targets reader mark html new part from to is of e =
+    let text = one_line (slice_range source from to) in
+    of-kind source targets reader mark html new (kinds.Code from to) is
+    (tags html new (rendered (inlines.Code text)).html (e ∙ ap (λ t. html ++ code_span_html (one_line t)) of ∙ ap (λ t. html ++ t) (sym (code-html text))))
 
 raw-html : (text : List ℕ) → (rendered (inlines.Html text)).html ≡ text
 raw-html text = simp (fold_out-Inline Rendered inline_step, outs-Html)
@@ -87,7 +94,9 @@ raw-html text = simp (fold_out-Inline Rendered inline_step, outs-Html)
 pub tags-html : (source : List ℕ) (targets : Targets) (reader : Reader) (mark : Mark) (html new part : List ℕ) → mark.kind ≡ kinds.Html → part ≡ slice_range source mark.at mark.end → new ≡ html ++ part
     → Wrote source targets reader mark html new
 unfolding write_all
-tags-html source targets reader mark html new part is of e = search (rules, of-kind, tags, raw-html)
+tags-html source targets reader mark html new part is of e =
+    let text = slice_range source mark.at mark.end in
+    of-kind source targets reader mark html new kinds.Html is (tags html new (rendered (inlines.Html text)).html (e ∙ ap (λ t. html ++ t) (of ∙ sym (raw-html text))))
 
 autolink-is : (is_address : Bool) (text : List ℕ) → (rendered (autolink is_address text)).html ≡ autolink_html is_address text
 autolink-is is_address text = linked (if is_address then codes "mailto:" ++ text else text)
@@ -104,7 +113,10 @@ autolink-is is_address text = linked (if is_address then codes "mailto:" ++ text
 pub tags-autolink : (source : List ℕ) (targets : Targets) (reader : Reader) (mark : Mark) (html new part : List ℕ) (is_address : Bool) → mark.kind ≡ kinds.Autolink is_address → part ≡ slice_range source (mark.at + 1) (mark.end - 1)
     → new ≡ html ++ autolink_html is_address part → Wrote source targets reader mark html new
 unfolding write_all
-tags-autolink source targets reader mark html new part is_address is of e = search (rules, of-kind, tags, autolink-is)
+tags-autolink source targets reader mark html new part is_address is of e =
+    let text = slice_range source (mark.at + 1) (mark.end - 1) in
+    of-kind source targets reader mark html new (kinds.Autolink is_address) is
+    (tags html new (rendered (autolink is_address text)).html (e ∙ ap (λ t. html ++ autolink_html is_address t) of ∙ ap (λ t. html ++ t) (sym (autolink-is is_address text))))
 
 pub tags-soft : (source : List ℕ) (targets : Targets) (reader : Reader) (mark : Mark) (html new : List ℕ) → mark.kind ≡ kinds.Soft → new ≡ html ++ codes "\n" → Wrote source targets reader mark html new
 unfolding write_all
@@ -131,7 +143,9 @@ tags-start source targets reader mark html new number link is m read e = search 
 pub tags-end : (source : List ℕ) (targets : Targets) (reader : Reader) (mark : Mark) (html new : List ℕ) (number : ℕ) (link : Link) → mark.kind ≡ kinds.End number → IsMarkIn source targets reader mark → link ≡ get_or reader.links.items number link
     → new ≡ html ++ end_html (link_tag source targets number link) → Wrote source targets reader mark html new
 unfolding write_all
-tags-end source targets reader mark html new number link is m read e = search (rules, get_or_read, known, of-kind)
+tags-end source targets reader mark html new number link is m read e =
+    let of : link ≡ get_or reader.links.items number no_link = get_or_read reader.links.items number link (known source targets reader mark (kinds.End number) is m).known read no_link in
+    of-kind source targets reader mark html new (kinds.End number) is (ap (λ h. page h Tags) (ap (λ k. html ++ end_html (link_tag source targets number k)) (sym of) ∙ sym e))
 
 -- a mark that is written as the text that is there
 
@@ -179,7 +193,10 @@ code-plain text = simp (fold_out-Inline Rendered inline_step, outs-Code)
 pub alt-code : (source : List ℕ) (targets : Targets) (reader : Reader) (mark : Mark) (link : ℕ) (html new part : List ℕ) (from to : ℕ) → mark.kind ≡ kinds.Code from to → part ≡ slice_range source from to → new ≡ html ++ escape (one_line part)
     → Adds (Alternative link) html (mark_events source targets reader mark) new
 unfolding write_all
-alt-code source targets reader mark link html new part from to is of e = search (rules, alt-of, alt, code-plain)
+alt-code source targets reader mark link html new part from to is of e =
+    let text = one_line (slice_range source from to) in
+    alt-of source targets reader mark link html new (kinds.Code from to) is
+    (alt link html new (escape (rendered (inlines.Code text)).plain) (e ∙ ap (λ t. html ++ escape (one_line t)) of ∙ ap (λ t. html ++ escape t) (sym (code-plain text))))
 
 raw-plain : (text : List ℕ) → (rendered (inlines.Html text)).plain ≡ text
 raw-plain text = simp (fold_out-Inline Rendered inline_step, outs-Html)
@@ -187,7 +204,9 @@ raw-plain text = simp (fold_out-Inline Rendered inline_step, outs-Html)
 pub alt-html : (source : List ℕ) (targets : Targets) (reader : Reader) (mark : Mark) (link : ℕ) (html new part : List ℕ) → mark.kind ≡ kinds.Html → part ≡ slice_range source mark.at mark.end → new ≡ html ++ escape part
     → Adds (Alternative link) html (mark_events source targets reader mark) new
 unfolding write_all
-alt-html source targets reader mark link html new part is of e = search (rules, alt-of, alt, raw-plain)
+alt-html source targets reader mark link html new part is of e =
+    let text = slice_range source mark.at mark.end in
+    alt-of source targets reader mark link html new kinds.Html is (alt link html new (escape (rendered (inlines.Html text)).plain) (e ∙ ap (λ t. html ++ escape t) (of ∙ sym (raw-plain text))))
 
 autolink-plain : (is_address : Bool) (text : List ℕ) → (rendered (autolink is_address text)).plain ≡ text
 autolink-plain is_address text = linked-plain (if is_address then codes "mailto:" ++ text else text)
@@ -204,7 +223,10 @@ autolink-plain is_address text = linked-plain (if is_address then codes "mailto:
 pub alt-autolink : (source : List ℕ) (targets : Targets) (reader : Reader) (mark : Mark) (link : ℕ) (html new part : List ℕ) (is_address : Bool) → mark.kind ≡ kinds.Autolink is_address → part ≡ slice_range source (mark.at + 1) (mark.end - 1)
     → new ≡ html ++ escape part → Adds (Alternative link) html (mark_events source targets reader mark) new
 unfolding write_all
-alt-autolink source targets reader mark link html new part is_address is of e = search (rules, alt-of, alt, autolink-plain)
+alt-autolink source targets reader mark link html new part is_address is of e =
+    let text = slice_range source (mark.at + 1) (mark.end - 1) in
+    alt-of source targets reader mark link html new (kinds.Autolink is_address) is
+    (alt link html new (escape (rendered (autolink is_address text)).plain) (e ∙ ap (λ t. html ++ escape t) (of ∙ sym (autolink-plain is_address text))))
 
 pub alt-soft : (source : List ℕ) (targets : Targets) (reader : Reader) (mark : Mark) (link : ℕ) (html new : List ℕ) → mark.kind ≡ kinds.Soft → new ≡ html ++ codes " " → Adds (Alternative link) html (mark_events source targets reader mark) new
 unfolding write_all
@@ -220,7 +242,10 @@ alt-start source targets reader mark link html number is = alt-of source targets
 
 pub alt-end : (source : List ℕ) (targets : Targets) (reader : Reader) (mark : Mark) (link : ℕ) (html : List ℕ) (number : ℕ) → mark.kind ≡ kinds.End number → is_end_of link mark.kind ≡ false → Adds (Alternative link) html (mark_events source targets reader mark) html
 unfolding write_all
-alt-end source targets reader mark link html number is other = search rules
+alt-end source targets reader mark link html number is other =
+    let l = get_or reader.links.items number no_link in
+    alt-of source targets reader mark link html html (kinds.End number) is
+    (cond-false (number == link) (page (html ++ end_html (link_tag source targets number l)) Tags) (page html (Alternative link)) (sym (ap (is_end_of link) is) ∙ other))
 
 -- of a run, what is left
 emphasis-end : (link : ℕ) (emphasis : Emphasis) → is_number link (tag_in emphasis) ≡ false

@@ -44,7 +44,8 @@ begins-so word text h =
 -- a source that starts with one at a place, by a test of its bytes from there
 pub word-begins : (word bytes source : List ℕ) (at : ℕ) (told : Bool) → bytes ≡ source → told ≡ starts_with nat_eq (take (length bytes - at) (drop at bytes)) word → told ≡ true
     → (rest : List ℕ) × (drop at source ≡ word ++ rest)
-word-begins word bytes source at told same told_is there = search (rules, begins-so, nat_eq, slice_from)
+word-begins word bytes source at told same told_is there =
+    begins-so word (drop at source) (ap (λ t. starts_with nat_eq (drop at t) word) (sym same) ∙ ap (λ t. starts_with nat_eq t word) (sym (slice_from at bytes)) ∙ sym told_is ∙ there)
 
 -- a text starts with the first word of a form
 abbrev Begins : List ℕ → Form → Type 0
@@ -76,7 +77,8 @@ next-tick bytes source at plain same within h = found-at source (take (length by
 
 pub no-tick : (count : ℕ) (bytes source : List ℕ) (at : ℕ) → bytes ≡ source → IsFirstByte (is_byte 96) (take (length bytes - at) (drop at bytes)) None
     → up_to_run count false (drop at source) ≡ None
-no-tick count bytes source at same h = search (rules, no-run-here, nowhere, slice_from)
+no-tick count bytes source at same h =
+    no-run-here count (drop at source) (nowhere source (take (length bytes - at) (drop at bytes)) at (slice_from at bytes ∙ ap (drop at) same) h)
 
 -- the last backtick string of each length
 

@@ -87,11 +87,15 @@ can-kind : (source : List ℕ) (targets : Targets) (reader : Reader) (mark : Mar
 can-kind source targets reader mark bound l kind is h = subst (λ k. CanRiseAll bound l (kind_events source targets reader mark k)) is h
 
 pub autolink-fits : (source : List ℕ) (targets : Targets) (reader : Reader) (mark : Mark) (bound : ℕ) (l : Level) (is_address : Bool) → mark.kind ≡ kinds.Autolink is_address → CanRiseAll bound l (mark_events source targets reader mark) → l.now + 1 < bound
-autolink-fits source targets reader mark bound l is_address is h = search (rules, autolink-depth, can-kind)
+autolink-fits source targets reader mark bound l is_address is h =
+    let text = slice_range source (mark.at + 1) (mark.end - 1) in
+    subst (λ n. l.now + n < bound) (autolink-depth is_address text) (can-kind source targets reader mark bound l (kinds.Autolink is_address) is h).0
 
 pub autolink-level : (source : List ℕ) (targets : Targets) (reader : Reader) (mark : Mark) (l : Level) (is_address : Bool) (most : ℕ) → mark.kind ≡ kinds.Autolink is_address → most ≡ max l.most (l.now + 1) → level l.now most ≡ rise_all l (mark_events source targets reader mark)
 unfolding rise_all
-autolink-level source targets reader mark l is_address most is e = search (rules, of-kind, autolink-depth)
+autolink-level source targets reader mark l is_address most is e =
+    let text = slice_range source (mark.at + 1) (mark.end - 1) in
+    of-kind source targets reader mark l (level l.now most) (kinds.Autolink is_address) is (ap (level l.now) (e ∙ ap (λ n. max l.most (l.now + n)) (sym (autolink-depth is_address text))))
 
 pub begin-level : (source : List ℕ) (targets : Targets) (reader : Reader) (mark : Mark) (l new : Level) (number : ℕ) → mark.kind ≡ kinds.Start number → ((tag : Tag) → new ≡ rise l (Start tag)) → new ≡ rise_all l (mark_events source targets reader mark)
 unfolding rise_all
@@ -156,7 +160,8 @@ rises bound total l (End tag ∷ fs) more high low h = go (l.now == 0) refl h (�
 -- text doesn't nest
 byte-flat : (d m b : ℕ) (more : List Event) → d ≤ m → deepest d m (text_event b ∷ more) ≡ deepest d m more
 unfolding deepest
-byte-flat d m b more high = search (rules, soft-depth)
+byte-flat d m b more high =
+    elim (b == 10) as (λ c. deepest d m (cond c (Whole inlines.Soft) (Text (b ∷ [])) ∷ more) ≡ deepest d m more) [ true ↦ ap (λ n. deepest d n more) (omega (arith, high, soft-depth)) | false ↦ refl ]
 
 texts-flat : (runs : List PairedRun) (pairs : List Pair) (d m : ℕ) (text : List ℕ) (more : List Event) → d ≤ m → deepest d m (events_of runs pairs (texts text) ++ more) ≡ deepest d m more
 unfolding events_of
@@ -207,4 +212,5 @@ nests-last lines source targets reader depth at l h n =
 
 -- all levels fit
 pub nests-fit : (lines : Bool) (source : List ℕ) (targets : Targets) (reader : Reader) (depth : ℕ) → NestsTo lines source targets reader depth → depth < 2 ^ 64
-nests-fit lines source targets reader depth n = search rules
+nests-fit lines source targets reader depth n =
+    omega (arith, n.near, n.few, reader.runs.pairs.ok.0, reader.runs.pairs.ok.1, reader.runs.pairs.small, reader.links.ok.0, reader.links.ok.1, reader.links.small)

@@ -1,7 +1,7 @@
 -- The stack of openers as a list of entries, the last first.
 use Rattle.cm_inline.proofs.lemmas.Words.{◌≡◌, ℕ, zero, suc, ◌+◌, ◌-◌, ◌<◌, ◌≤◌, true, false, cond, ◌==◌, ◌&&◌, List, [], ◌∷◌, ◌++◌, length, map, reverse, take}
 use Rattle.cm_inline.proofs.lemmas.Words.{get_or, set, Some, None, sym, ap, ◌∙◌, arith, reverse-append, map-append, length-set, take_all, get_or_read, cond-true}
-use Rattle.cm_inline.proofs.lemmas.Words.{cond-false, ne_eqb, Run, delimiters_match, rules}
+use Rattle.cm_inline.proofs.lemmas.Words.{cond-false, ne_eqb, Run, delimiters_match}
 use Rattle.std.proofs.Common.{nat_lt}
 use Rattle.std.proofs.lemmas.List.{take_more, take_more_set}
 use Rattle.std.proofs.lemmas.Bool.{lt-ltb, le-ltb}
@@ -82,7 +82,9 @@ turn-ends c bottom stack at h = (ap (λ n. find_opener c bottom (entries_in (tak
 -- what a pair leaves of the last entry
 
 pub stack-ends : (stack : List Opener) → 0 < length stack → stack ≡ take (length stack - 1) stack ++ get_or stack (length stack - 1) no_opener ∷ []
-stack-ends stack h = search (rules, take_all, take_more)
+stack-ends stack h =
+    let n : length stack ≡ length stack - 1 + 1 = omega (arith, h) in
+    sym (take_all (length stack) stack (omega arith)) ∙ ap (λ k. take k stack) n ∙ take_more stack (length stack - 1) no_opener (omega (arith, h))
 
 pub stack-set : (stack : List Opener) (y : Opener) → 0 < length stack → set stack (length stack - 1) y ≡ take (length stack - 1) stack ++ y ∷ []
 stack-set stack y h =

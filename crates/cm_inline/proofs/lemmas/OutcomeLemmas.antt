@@ -2,7 +2,7 @@
 use Rattle.cm_inline.proofs.lemmas.Words.{◌≡◌, ℕ, ◌+◌, ◌≤◌, Bool, max, List, [], length, Some, sym, ap, ◌∙◌, arith, append-nil, Targets, inlines_depth, inlines_html}
 use Rattle.cm_inline.proofs.lemmas.Words.{Item, settled, Reader, rules}
 use Rattle.cm_inline.specs.steps.pairing.Events.{Event, inlines_of}
-use Rattle.cm_inline.specs.steps.pairing.Readings.{Tags, page, write_all, deepest, starts_in, StandFor}
+use Rattle.cm_inline.specs.steps.pairing.Readings.{Tags, page, write_all, deepest, starts_in, StandFor, Page, Mode}
 use Rattle.cm_inline.specs.steps.pairing.States.{AreChained}
 use Rattle.cm_inline.specs.steps.Depths.{items_depth}
 use Rattle.cm_inline.specs.steps.Marks.{events_in, AreLaid}
@@ -13,10 +13,16 @@ use Rattle.cm_inline.proofs.lemmas.ReadingLemmas.{nests-all, writes-inlines}
 
 -- the HTML, with no alternative text left open
 pub stands-html : (fs : List Event) (items : List Item) → StandFor fs items → (write_all (page [] Tags) fs).html ≡ inlines_html (settled items)
-stands-html fs items s = search (rules, writes-inlines)
+stands-html fs items s = ap html (writes-inlines fs items s.writes)
+  where
+    html : Page → List ℕ
+    html p = p.html
 
 pub stands-mode : (fs : List Event) (items : List Item) → StandFor fs items → (write_all (page [] Tags) fs).mode ≡ Tags
-stands-mode fs items s = search rules
+stands-mode fs items s = ap mode (writes-inlines fs items s.writes)
+  where
+    mode : Page → Mode
+    mode p = p.mode
 
 -- the inlines
 pub stands-inlines : (fs : List Event) (items : List Item) → StandFor fs items → inlines_of fs ≡ settled items

@@ -90,7 +90,10 @@ under-all n m (Known fs ∷ ms) p h = under-all n m ms p h
 open-run : (number count n : ℕ) (tag : Tag) (pairs : List Pair) (r : PairedRun) →
     open_at number count tag (run_events pairs n r) ≡ ends_between pairs r.from r.to ++ (opened_event number count tag (Rest n r.run) ++ starts pairs r.opened)
 unfolding open_at
-open-run number count n tag pairs r = search (rules, open-append, open-absent, absent-none, ends-none, chain-none)
+open-run number count n tag pairs r =
+    open-append number count tag (ends_between pairs r.from r.to) (Rest n r.run ∷ starts pairs r.opened)
+    ∙ ap (λ t. t ++ (opened_event number count tag (Rest n r.run) ++ open_at number count tag (starts pairs r.opened))) (open-absent number count tag (ends_between pairs r.from r.to) (absent-none number (ends_between pairs r.from r.to) (ends-none (drop r.from (take r.to pairs)))))
+    ∙ ap (λ t. ends_between pairs r.from r.to ++ (opened_event number count tag (Rest n r.run) ++ t)) (open-absent number count tag (starts pairs r.opened) (absent-none number (starts pairs r.opened) (chain-none (reverse pairs) r.opened)))
 
 -- one part, and all
 run-written : (number count : ℕ) (tag : Tag) (runs : List PairedRun) (pairs : List Pair) (n : ℕ) → n < length runs → (get_or runs n no_run).opened ≤ length pairs → (get_or runs n no_run).to ≤ length pairs

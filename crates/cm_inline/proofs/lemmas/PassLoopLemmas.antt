@@ -80,7 +80,10 @@ passing-first old openers from more can e k = record {
 
 -- what waits inside is what waits from the place on
 inside-waits : (from : ℕ) (old : Runs) (front inside : List Segment) → WaitFrom from old front inside → drop from old.waiting.items ≡ numbers_in inside
-inside-waits from old front inside a = search (rules, drop-append-le, drop_all)
+inside-waits from old front inside a = ap (drop from) a.waiting ∙ go from (numbers_in front) a.place
+  where
+    go : (n : ℕ) (xs : List ℕ) → length xs ≡ n → drop n (xs ++ numbers_in inside) ≡ numbers_in inside
+    go n xs e = drop-append-le n xs (numbers_in inside) (omega (arith, e)) ∙ ap (λ l. l ++ numbers_in inside) (drop_all n xs (omega (arith, e)))
 
 pub reaching-first : (old : Runs) (openers : Stack) (from : ℕ) (front inside : List Segment) → WaitFrom from old front inside → openers.entries ≡ [] → openers.looks ≡ old.openers.looks
     → Reaching old (record old { openers = openers }) zeros inside (drop from old.waiting.items)

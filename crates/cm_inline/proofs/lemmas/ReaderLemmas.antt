@@ -67,7 +67,8 @@ texts-start runs pairs (b ∷ bs) = search (rules, (texts-start runs pairs bs))
 
 pub starts-more : (runs : List PairedRun) (pairs : List Pair) (xs ys : List Segment)
     → starts_in (events_of runs pairs (all_parts (xs ++ ys))) ≡ starts_in (events_of runs pairs (all_parts xs)) + starts_in (events_of runs pairs (all_parts ys))
-starts-more runs pairs xs ys = search (rules, all_parts-append, events-append, starts-append)
+starts-more runs pairs xs ys =
+    ap (λ t. starts_in (events_of runs pairs t)) (all_parts-append xs ys) ∙ ap starts_in (events-append runs pairs (all_parts xs) (all_parts ys)) ∙ starts-append (events_of runs pairs (all_parts xs)) (events_of runs pairs (all_parts ys))
 
 -- Marks more, which stand for an item that is no run, no bracket and no link.
 pub record AreMore (source : List ℕ) (targets : Targets) (v : View) (at end : ℕ) (marks : List Mark) (parts : List Part) (item : Item) : Type 0 where
@@ -126,7 +127,8 @@ module _ (source : List ℕ) (targets : Targets) (v : View) (at end : ℕ) (star
   -- marks and parts that are no run, no bracket and no link
   more-by : (marks : List Mark) (parts : List Part) (item : Item) → AreLaid v.lines source targets v.runs v.links at end marks → parts ≡ parts_between source targets v.links at end marks → AreKnown parts
       → (is_run item ≡ false) × (is_opener item ≡ false) × (is_linked item ≡ false) → StandFor (events_of runs_v pairs_v parts) (item ∷ []) → starts_in (events_of runs_v pairs_v parts) ≡ 0 → More marks parts item
-  more-by marks parts item laid same known other stands starts = search rules
+  more-by marks parts item laid same known other stands starts =
+      record { further = further; boundary = boundary; laid = laid; parts_are = same; known = known; other = other.0; closed = other.1; unlinked = other.2; stands = stands; no_start = starts }
 
   -- text, of which each byte stays text
   text-more : list_all (stays_text true) (slice_range source at end) ≡ true → More [] (texts (slice_range source at end)) (Characters (slice_range source at end))

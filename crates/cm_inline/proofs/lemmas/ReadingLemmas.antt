@@ -3,15 +3,16 @@ use Rattle.cm_inline.proofs.lemmas.Words.{◌≡◌, ℕ, zero, ◌+◌, ◌-◌
 use Rattle.cm_inline.proofs.lemmas.Words.{arith, append-nil, append_assoc, cond-true, cond-false, eq-eqb, ne_eqb, flat_map-append, Inline, fold_out-Inline, outs-Text}
 use Rattle.cm_inline.proofs.lemmas.Words.{outs-Link, outs-Image, outs-Emph, outs-Strong, outs-Strike, depth_step, depth_of, inlines_depth, escape_byte, escape}
 use Rattle.cm_inline.proofs.lemmas.Words.{Rendered, inline_step, inlines_html, rendered, Run, Item, emphasised, Characters, Finished, Linked, Delimiters, Opener}
-use Rattle.cm_inline.proofs.lemmas.Words.{bracket_text, text_before, settled_after, settled, rules, nat_tests, replicate}
-use Rattle.std.specs.Prelude.{flat_map}
+use Rattle.cm_inline.proofs.lemmas.Words.{bracket_text, text_before, settled_after, settled, rules, nat_tests, codes}
+use Rattle.std.specs.Prelude.{replicate, flat_map}
 use Rattle.cm_tree.specs.declared.tree.Inline.TheVariants as inlines
-use Rattle.cm_html.specs.Html.{join_plain, image_html}
+use Rattle.cm_html.specs.Html.{join_plain, image_html, image_start, title_html}
 use Rattle.cm_inline.proofs.lemmas.InlineDepthLemmas.{both, settled-after-depth}
 use Rattle.cm_inline.specs.steps.pairing.Events.{Event, Text, Rest, Tag, Emphasis, StrongEmphasis, Strikethrough, LinkTag, Start, End, made_of, tag_of}
 use Rattle.cm_inline.proofs.lemmas.EventLemmas.{means-append, means-rest, means-empty, means-wrap, tag-makes}
 use Rattle.cm_inline.specs.steps.pairing.Readings.{start_html, end_html, Tags, Alternative, is_number, mode_of, page, write_all, item_html, item_plain, AreFree, IsAlone, Writes, deepest, Nests, starts_in, IsNear, StandFor}
 use Rattle.cm_inline.proofs.lemmas.WriteLemmas.{write-append}
+use Rattle.cm_inline.specs.steps.Depths.{items_depth}
 
 free-split : (n : ℕ) (fs gs : List Event) → AreFree n (fs ++ gs) → AreFree n fs × AreFree n gs
 free-split n [] gs h = (tt, h)
@@ -77,7 +78,9 @@ image-is : (dest title : List ℕ) (content : List Inline) → (rendered (inline
 image-is dest title content = simp (fold_out-Inline Rendered inline_step, outs-Image)
 
 image-html : (number : ℕ) (dest title : List ℕ) (content : List Inline) → (rendered (inlines.Image dest title content)).html ≡ start_html (LinkTag number true dest title) ++ escape (plain_of content) ++ end_html (LinkTag number true dest title)
-image-html number dest title content = search (rules, image-is, append_assoc)
+image-html number dest title content =
+    let a = image_start dest ++ escape (plain_of content) in
+    image-is dest title content ∙ append_assoc (a ++ codes "\"") (title_html title) (codes " />") ∙ append_assoc a (codes "\"") (title_html title ++ codes " />") ∙ ap (λ t. a ++ t) (sym (append_assoc (codes "\"") (title_html title) (codes " />")))
 
 made-plain : (tag : Tag) (content : List Inline) → (rendered (made_of tag content)).plain ≡ plain_of content
 made-plain Emphasis content = simp (fold_out-Inline Rendered inline_step, outs-Emph)
@@ -126,7 +129,9 @@ writes-wrap fs inside tag w alone = record { tags = tags tag alone; alternative 
 -- and how deep
 
 pub nests-append : (fs gs : List Event) (xs ys : List Item) → Nests fs xs → Nests gs ys → Nests (fs ++ gs) (xs ++ ys)
-nests-append fs gs xs ys f g depth most more h = search (rules, append_assoc, both)
+nests-append fs gs xs ys f g depth most more h =
+    ap (deepest depth most) (append_assoc fs gs more) ∙ f depth most (gs ++ more) h ∙ g depth (max most (depth + items_depth xs)) more (omega (arith, h))
+    ∙ ap (λ n. deepest depth n more) (omega (arith, both xs ys))
 
 made-depth : (tag : Tag) (content : List Inline) → depth_of (made_of tag content) ≡ inlines_depth content + 1
 made-depth Emphasis content = simp (fold_out-Inline ℕ depth_step, outs-Emph)

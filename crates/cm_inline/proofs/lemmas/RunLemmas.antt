@@ -1,5 +1,5 @@
 -- What a delimiter run writes.
-use Rattle.cm_inline.proofs.lemmas.Words.{◌≡◌, ℕ, ◌<◌, ◌≤◌, List, ◌++◌, length, get_or, sym, ap, subst, ◌∙◌, arith, get_or-map, rules, replicate}
+use Rattle.cm_inline.proofs.lemmas.Words.{◌≡◌, ℕ, ◌<◌, ◌≤◌, List, ◌++◌, length, get_or, sym, ap, subst, ◌∙◌, arith, get_or-map, rules}
 use Rattle.cm_inline.specs.declared.runs.Run as held
 use Rattle.cm_inline.specs.declared.runs.Pair as made
 use Rattle.cm_inline.specs.steps.pairing.Parts.{PairedRun, no_run, starts, ends_between, run_events}
@@ -10,6 +10,7 @@ use Rattle.cm_inline.specs.steps.Writing.{Adds}
 use Rattle.cm_inline.proofs.lemmas.HtmlLemmas.{run-html}
 use Rattle.cm_inline.proofs.lemmas.TagLemmas.{length-pairs}
 use Rattle.cm_inline.proofs.lemmas.WriteLemmas.{write-append}
+use Rattle.std.specs.Prelude.{replicate}
 
 -- the pairs that a run knows of are there
 pub record RunKnown (pairs : List made.Pair) (r : held.Run) : Type 0 where

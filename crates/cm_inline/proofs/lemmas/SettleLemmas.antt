@@ -6,7 +6,7 @@ use Rattle.cm_inline.specs.declared.marks.Kind.TheVariants as kinds
 use Rattle.cm_inline.specs.steps.pairing.Events.{Built, ended, innermost, others, add_text, add_inline, build, made_of, inlines_of}
 use Rattle.cm_inline.specs.steps.pairing.Parts.{part_events}
 use Rattle.cm_inline.specs.steps.Building.{opened, closed, IsBuiltTo}
-use Rattle.cm_inline.specs.steps.Marks.{link_tag, part_of_kind, IsUnmarked, AreLaid, events_in}
+use Rattle.cm_inline.specs.steps.Marks.{link_tag, part_of_kind, IsUnmarked, AreLaid, events_in, no_link, IsOfKind}
 use Rattle.cm_inline.specs.steps.Runs.{runs_in, pairs_in}
 use Rattle.cm_inline.specs.steps.Standalone.{autolink}
 use Rattle.cm_inline.specs.steps.Writing.{no_mark, mark_numbered, mark_events, IsMarkIn}
@@ -54,7 +54,8 @@ built-html source targets reader mark m new part text is of copy e = of-kind sou
 pub built-autolink : (source : List ℕ) (targets : Targets) (reader : Reader) (mark : Mark) (m new : Built) (part : List ℕ) (is_address : Bool) (link : Inline) → mark.kind ≡ kinds.Autolink is_address → part ≡ slice_range source (mark.at + 1) (mark.end - 1)
     → link ≡ autolink is_address part → new ≡ add_inline m link → new ≡ build m (mark_events source targets reader mark)
 unfolding build
-built-autolink source targets reader mark m new part is_address link is of linked e = search (rules, of-kind)
+built-autolink source targets reader mark m new part is_address link is of linked e =
+    of-kind source targets reader mark m new (kinds.Autolink is_address) is (e ∙ ap (add_inline m) (linked ∙ ap (autolink is_address) of))
 
 pub built-soft : (source : List ℕ) (targets : Targets) (reader : Reader) (mark : Mark) (m new : Built) → mark.kind ≡ kinds.Soft → new ≡ add_inline m inlines.Soft → new ≡ build m (mark_events source targets reader mark)
 unfolding build
@@ -71,7 +72,10 @@ built-start source targets reader mark m new number is e = of-kind source target
 pub built-end : (source : List ℕ) (targets : Targets) (reader : Reader) (mark : Mark) (m new : Built) (number : ℕ) (link : Link) → mark.kind ≡ kinds.End number → IsMarkIn source targets reader mark → link ≡ get_or reader.links.items number link
     → new ≡ closed m (made_of (link_tag source targets number link) (ended m)) → new ≡ build m (mark_events source targets reader mark)
 unfolding build
-built-end source targets reader mark m new number link is known read e = search (rules, get_or_read, of-kind)
+built-end source targets reader mark m new number link is known read e =
+    let kind : IsOfKind source targets reader.runs.runs.items reader.links.items mark.at mark.end (kinds.End number) = subst (IsOfKind source targets reader.runs.runs.items reader.links.items mark.at mark.end) is known.kind in
+    let of : link ≡ get_or reader.links.items number no_link = get_or_read reader.links.items number link kind.known read no_link in
+    of-kind source targets reader mark m new (kinds.End number) is (e ∙ ap (λ l. closed m (made_of (link_tag source targets number l) (ended m))) of)
 
 -- a node ends with an inline
 
@@ -80,7 +84,8 @@ of_parts content text outer = record { content = content; text = text; outer = o
 
 pub closed-with : (m : Built) (text : List ℕ) (before after : List Inline) (outer : List (List Inline)) (inline made : Inline) → of_parts before text outer ≡ of_parts (innermost m.outer) [] (others m.outer)
     → after ≡ before ++ inline ∷ [] → inline ≡ made → of_parts after text outer ≡ closed m made
-closed-with m text before after outer inline made left pushed is = search rules
+closed-with m text before after outer inline made left pushed is =
+    ap (λ c. of_parts c text outer) (pushed ∙ ap (λ (i : Inline). before ++ i ∷ []) is) ∙ ap (λ (b : Built). of_parts (b.content ++ made ∷ []) b.text b.outer) left
 
 -- all of them
 

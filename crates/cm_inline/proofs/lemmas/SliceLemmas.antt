@@ -15,7 +15,9 @@ before-later source at end low =
     ap (λ n. reverse (take n source)) (sym place) ∙ ap reverse (take-add at (end - at) source) ∙ reverse-append (take at source) (slice_range source at end)
 
 pub one-slice : (source : List ℕ) (at : ℕ) → at < length source → slice_range source at (at + 1) ≡ get_or source at 0 ∷ []
-one-slice source at within = search (rules, drop_more)
+one-slice source at within =
+    let one : at + 1 - at ≡ 1 = omega arith in
+    ap (λ n. take n (drop at source)) one ∙ ap (take 1) (drop_more source at 0 within)
 
 -- what was read up to a place, and the byte there
 pub before-one : (source : List ℕ) (at end : ℕ) → at < end → at < length source → reverse (slice_range source (at + 1) end) ++ get_or source at 0 ∷ reverse (take at source) ≡ reverse (take end source)

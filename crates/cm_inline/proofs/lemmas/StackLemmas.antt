@@ -114,7 +114,10 @@ without-reversed : (n : ℕ) (r : Run) → reverse (without n r) ≡ without n r
 without-reversed n r = elim (nat_le r.left n) as (λ b. reverse (cond b [] (Delimiters (taken n r) ∷ [])) ≡ cond b [] (Delimiters (taken n r) ∷ [])) [ true ↦ refl | false ↦ refl ]
 
 pub pair-items : (c o : Run) (low inside : List Item) → reverse (up_to_pair (opened_at o low (reverse inside)) c) ≡ pair_items c o low inside
-pair-items c o low inside = search (rules, reverse-append, without-reversed, reverse-reverse)
+pair-items c o low inside =
+    let made = Finished (emphasised c.character (used o c) (settled (reverse inside))) in
+    reverse-append (reverse low ++ without (used o c) o) (made ∷ [])
+    ∙ ap (λ t. made ∷ t) (reverse-append (reverse low) (without (used o c) o) ∙ ap (λ t. t ++ reverse (reverse low)) (without-reversed (used o c) o) ∙ ap (λ t. without (used o c) o ++ t) (reverse-reverse low))
 
 pub pair-stacked : (c : Run) (e : Entry) (below : List Entry) (fs : List Event) (items : List Item) (f : Found c e below fs items) →
     Stacked (rest_of (used e.run c) e ++ below) (pair_events c e below fs items f) (pair_items c e.run f.low f.inside)

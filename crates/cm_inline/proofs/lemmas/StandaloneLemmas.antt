@@ -133,7 +133,9 @@ link-placed rules source at end link utf8 within high e left =
 -- the whole of what was read
 pub whole-placed : (source : List ℕ) (at end : ℕ) → at ≤ end → end ≤ length source → before (drop end source) (drop at source) ≡ slice_range source at end
 unfolding before
-whole-placed source at end low high = search (rules, length-drop)
+whole-placed source at end low high =
+    let size : length (drop at source) - length (drop end source) ≡ end - at = omega (arith, low, high, length-drop at source, length-drop end source) in
+    ap (λ n. take n (drop at source)) size
 
 pub whole-text : (text html rest : List ℕ) (o : Option (List ℕ)) → Some (record { text = html; rest = rest }) ≡ whole_of text o → html ≡ before rest text
 whole-text text html rest o e = grind (arith, nat_tests, none-some)

@@ -7,7 +7,7 @@ use Rattle.cm_inline.specs.steps.pairing.ClosingRuns.{State}
 use Rattle.cm_inline.specs.steps.pairing.Events.{Tag}
 use Rattle.cm_inline.specs.steps.pairing.Parts.{Pair, PairedRun, no_run as no_paired_run, with_pair}
 use Rattle.cm_inline.specs.steps.pairing.Stacks.{taken, rest_of}
-use Rattle.cm_inline.specs.steps.pairing.States.{run_at, SameRuns, AreChained, state_of, IsReady, EntriesFrom, Grows, RunSteps, with_left}
+use Rattle.cm_inline.specs.steps.pairing.States.{run_at, SameRuns, AreChained, state_of, IsReady, EntriesFrom, Grows, RunSteps, with_left, no_run}
 use Rattle.cm_inline.specs.steps.Entries.{Entry, Listed, Below, reserve}
 use Rattle.cm_inline.specs.steps.Openers.{Stack, spent, leaving}
 use Rattle.cm_inline.specs.steps.Runs.{paired_run, runs_in, pairs_in, pair_in}
@@ -29,7 +29,10 @@ abbrev pub cut_run : (left opened : ℕ) → PairedRun → PairedRun
 cut_run left opened r = record { run = record r.run { left = left }; opened = opened; from = r.from; to = r.to }
 
 pub left-in : (number left opened : ℕ) (runs : List HeldRun) → number < length runs → runs_in (with_left number left opened runs) ≡ set (runs_in runs) number (cut_run left opened (get_or (runs_in runs) number no_paired_run))
-left-in number left opened runs h = search (rules, map-set, get_or-map)
+left-in number left opened runs h =
+    let r = run_at runs number in
+    map-set paired_run runs number (record { run = record { marker = r.run.marker; opens = r.run.opens; closes = r.run.closes; whole = r.run.whole; left = left }; opened = opened; from = r.from; to = r.to })
+    ∙ ap (λ p. set (runs_in runs) number (cut_run left opened p)) (sym (get_or-map paired_run runs number no_run no_paired_run h))
 
 pub same-write : (old runs new : List HeldRun) (number : ℕ) (x : HeldRun) → number < length runs → SameRuns old runs → new ≡ set runs number x → x.run.marker ≡ (run_at runs number).run.marker → x.run.whole ≡ (run_at runs number).run.whole → SameRuns old new
 same-write old runs new number x within s e m w = search rules
@@ -67,7 +70,8 @@ below-found n [] e ys b = b.0
 below-found n (x ∷ xs) e ys b = below-found n xs e ys b.1
 
 pub pair-long : (old now : List HeldPair) (tag : Tag) (number : ℕ) (runs : List PairedRun) → pairs_in now ≡ with_pair tag number runs (pairs_in old) → length now ≡ length old + 1
-pair-long old now tag number runs e = search (rules, length-append, length-map)
+pair-long old now tag number runs e =
+    omega (arith, ap length e, length-append (pairs_in old) (record { tag = tag; before = (get_or runs number no_paired_run).opened } ∷ []), length-map old pair_in, length-map now pair_in)
 
 -- pairs are never fewer
 pub steps-longer : (old new : Runs) (had bs : List ℕ) (number : ℕ) → RunSteps old new had bs number number 0 → length old.pairs.items ≤ length new.pairs.items

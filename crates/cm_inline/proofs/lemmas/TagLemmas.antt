@@ -1,7 +1,7 @@
 -- The ends and the starts of pairs at a run, one after another.
 use Rattle.cm_inline.proofs.lemmas.Words.{◌≡◌, ℕ, zero, suc, ◌+◌, ◌-◌, ◌<◌, ◌≤◌, ◌==◌, List, [], ◌∷◌, ◌++◌, length, take, drop, get_or, reverse, refl, sym, ap, subst}
 use Rattle.cm_inline.proofs.lemmas.Words.{◌∙◌, arith, append_assoc, cond-false, ne_eqb, drop_more, drop_all, length-take, length-take-le, length-reverse, get_or-take}
-use Rattle.cm_inline.proofs.lemmas.Words.{reverse-append, take-append-drop, get_or-map, Emphasis, rules, nat_tests}
+use Rattle.cm_inline.proofs.lemmas.Words.{reverse-append, take-append-drop, get_or-map, Emphasis, nat_tests}
 use Rattle.cm_inline.specs.declared.runs.Pair as made
 use Rattle.cm_inline.specs.steps.pairing.Events.{Event, Start, End}
 use Rattle.cm_inline.specs.steps.pairing.Readings.{Tags, Page, page, mode_of, write_all, start_html, end_html}
@@ -20,7 +20,10 @@ pub pair-at : (ps : List made.Pair) (n : ℕ) (d : made.Pair) → n < length ps 
 pair-at ps n d h = get_or-map pair_in ps n d no_pair h
 
 pub ends-next : (ps : List made.Pair) (at to : ℕ) (d : made.Pair) → at < to → to ≤ length ps → ends_between (pairs_in ps) at to ≡ End (tag_in (get_or ps at d).emphasis) ∷ ends_between (pairs_in ps) (at + 1) to
-ends-next ps at to d low high = search (rules, length-take-le, length-pairs, drop_more, get_or-take, pair-at)
+ends-next ps at to d low high =
+    let long : length (take to (pairs_in ps)) ≡ to = length-take-le to (pairs_in ps) (omega (arith, length-pairs ps)) in
+    ap ends (drop_more (take to (pairs_in ps)) at no_pair (omega (arith, long)))
+    ∙ ap (λ (q : Pair). End q.tag ∷ ends_between (pairs_in ps) (at + 1) to) (get_or-take to (pairs_in ps) at no_pair low ∙ pair-at ps at d (omega (arith, low, high)))
 
 pub ends-last : (pairs : List Pair) (at to : ℕ) → to ≤ at → ends_between pairs at to ≡ []
 ends-last pairs at to h = ap ends (drop_all at (take to pairs) (omega (arith, length-take to pairs)))
@@ -94,7 +97,8 @@ mode-tags emphasis = grind (arith, nat_tests)
 pub start-written : (html new : List ℕ) (emphasis : Emphasis) (events more : List Event) (whole : Page) → new ≡ html ++ start_html (tag_in emphasis) → events ≡ Start (tag_in emphasis) ∷ more
     → write_all (page html Tags) events ≡ whole → write_all (page new Tags) more ≡ whole
 unfolding write_all
-start-written html new emphasis events more whole e f h = search (rules, mode-tags)
+start-written html new emphasis events more whole e f h =
+    ap (λ t. write_all (page t Tags) more) e ∙ ap (λ m. write_all (page (html ++ start_html (tag_in emphasis)) m) more) (sym (mode-tags emphasis)) ∙ sym (ap (write_all (page html Tags)) f) ∙ h
 
 pub none-written : (html : List ℕ) (events : List Event) (whole : Page) → events ≡ [] → write_all (page html Tags) events ≡ whole → whole ≡ page html Tags
 unfolding write_all

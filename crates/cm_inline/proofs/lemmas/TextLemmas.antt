@@ -2,8 +2,8 @@
 use Rattle.cm_inline.proofs.lemmas.Words.{◌≡◌, ℕ, suc, ◌+◌, ◌-◌, ◌<◌, ◌≤◌, ◌==◌, ◌&&◌, ◌||◌, not, Bool, true, false, List, [], ◌∷◌, ◌++◌, length, take, drop, get_or}
 use Rattle.cm_inline.proofs.lemmas.Words.{refl, sym, ap, subst, ◌∙◌, arith, append_assoc, length-append, length-drop, get_or-drop, drop-drop, nat_lt, list_all}
 use Rattle.cm_inline.proofs.lemmas.Words.{slice_range, IsCharBoundary, and_parts, nat_tests, drop_more, length-take, IsCharBoundary-before_ascii, next_place}
-use Rattle.cm_inline.proofs.lemmas.Words.{is_marked, begins_with, is_empty, ends_with, is_plain_byte, Rules, Text, Defined, inlines_of, rules}
-use Rattle.std.proofs.Common.{replicate, take_all}
+use Rattle.cm_inline.proofs.lemmas.Words.{is_marked, begins_with, is_empty, ends_with, is_plain_byte, Rules, Text, Defined, inlines_of, rules, replicate}
+use Rattle.std.proofs.Common.{take_all}
 use Rattle.std.specs.Prelude.{cond}
 use Rattle.std.specs.List.{list_any, position_or_len}
 use Rattle.cm_scan.specs.laws.InlineLaws.{keeps_spaces}

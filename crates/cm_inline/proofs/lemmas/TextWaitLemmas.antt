@@ -50,7 +50,9 @@ waits-mark source targets reader old html next h w = search (rules, laid-next, d
 
 -- the place up to which the text waits
 pub waits-between : (source : List ℕ) (targets : Targets) (reader : Reader) (old html : List ℕ) (next : Place) → next.mark < length reader.marks.items → TextWaits source targets reader old html next → IsBetween source next.from (mark_numbered reader.marks.items next.mark).at
-waits-between source targets reader old html next h w = search (rules, laid-next)
+waits-between source targets reader old html next h w =
+    let laid = laid-next source targets reader w.place next.mark h w.laid in
+    (omega (arith, w.between.0, laid.0.between.0), w.between.1, laid.0.between.2)
 
 -- a mark that is text waits too
 pub waits-text : (source : List ℕ) (targets : Targets) (reader : Reader) (old html : List ℕ) (next : Place) → next.mark < length reader.marks.items → IsSettled false source targets reader → TextWaits source targets reader old html next
@@ -87,7 +89,9 @@ mark-among reader marks at d same h = ap (λ ms. get_or ms at d) same ∙ get_or
 mark-then : (source : List ℕ) (targets : Targets) (reader : Reader) (old html : List ℕ) (at : ℕ) (mark : Mark) → mark ≡ mark_numbered reader.marks.items at
     → write_all (page old Tags) (mark_events source targets reader mark) ≡ page html (mode_after reader.links.items mark.kind)
     → write_all (page old Tags) (events_at source targets reader at) ≡ write_all (page html (mode_after reader.links.items mark.kind)) (events_after source targets reader at)
-mark-then source targets reader old html at mark is e = search (rules, write-append)
+mark-then source targets reader old html at mark is e =
+    ap (λ m. write_all (page old Tags) (mark_events source targets reader m ++ events_after source targets reader at)) (sym is)
+    ∙ write-append (page old Tags) (mark_events source targets reader mark) (events_after source targets reader at) ∙ ap (λ p. write_all p (events_after source targets reader at)) e
 
 pub image-at : (source : List ℕ) (targets : Targets) (reader : Reader) (old html : List ℕ) (at number : ℕ) (mark : Mark) → IsSettled false source targets reader → at < length reader.marks.items → mark ≡ mark_numbered reader.marks.items at
     → write_all (page old Tags) (mark_events source targets reader mark) ≡ page html (mode_after reader.links.items mark.kind) → mode_after reader.links.items mark.kind ≡ Alternative number

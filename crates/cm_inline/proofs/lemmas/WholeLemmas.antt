@@ -67,7 +67,8 @@ ahead-bracket rules defined source so_far more at end stands further closed = se
 
 -- items with one more, in pieces
 pieces-more : (source : List ℕ) (so_far : List pairing.Item) (item : pairing.Item) → in_pieces (so_far ++ item ∷ []) ≡ in_pieces so_far ++ pieces_of item
-pieces-more source so_far item = search (rules, flat_map-append, append-nil)
+pieces-more source so_far item =
+    flat_map-append pieces_of so_far (item ∷ []) ∙ ap (λ t. in_pieces so_far ++ t) (append-nil (pieces_of item))
 
 pieces-pieces : (text : List ℕ) → in_pieces (one_by_one text) ≡ one_by_one text
 pieces-pieces [] = refl

@@ -1,7 +1,7 @@
 -- The names of the crates below, and of the declared types, that many files of the proof cite, passed on from one place. It declares nothing.
 pub use Rattle.std.proofs.Common.{Bool, Err, IfSome, List, None, Option, Some, [], add-one, ap, append-nil, append_assoc, arith, codes, cond, drop, drop-drop, false}
-pub use Rattle.std.proofs.Common.{get_or, get_or-drop, inl, inr, length, length-append, length-drop, map, max, nat_le, not, refl, reverse, rules, set, subst, suc, sym}
-pub use Rattle.std.proofs.Common.{take, take-add, true, zero, ℕ, ◌&&◌, ◌*◌, ◌++◌, ◌+◌, ◌-◌, ◌<◌, ◌==◌, ◌^◌, ◌||◌, ◌∙◌, ◌∷◌, ◌≡◌, ◌≢◌, ◌≤◌, ◌⊎◌}
+pub use Rattle.std.proofs.Common.{get_or, get_or-drop, inl, inr, length, length-append, length-drop, map, max, nat_le, not, refl, replicate, reverse, rules, set}
+pub use Rattle.std.proofs.Common.{subst, suc, sym, take, take-add, true, zero, ℕ, ◌&&◌, ◌*◌, ◌++◌, ◌+◌, ◌-◌, ◌<◌, ◌==◌, ◌^◌, ◌||◌, ◌∙◌, ◌∷◌, ◌≡◌, ◌≢◌, ◌≤◌, ◌⊎◌}
 pub use Rattle.std.proofs.Math.Seq.{drop-append_seam}
 pub use Rattle.std.proofs.lemmas.Bool.{and_parts, cond-false, cond-true, eq-eqb, eqb-false, eqb-true, le-leb, leb-true, ltb-false, ltb-true, ne_eqb, not-true}
 pub use Rattle.std.proofs.lemmas.Bool.Decides.{nat_tests}
@@ -13,7 +13,7 @@ pub use Rattle.std.proofs.lemmas.List.Sums.{sum_by-append, sum_by-cons}
 pub use Rattle.std.proofs.lemmas.Option.{same_Some}
 pub use Rattle.std.proofs.lemmas.Str.{IsCharBoundary-after_ascii, IsCharBoundary-before_ascii, IsCharBoundary-start}
 pub use Rattle.std.specs.List.{concat, list_all, slice_range}
-pub use Rattle.std.specs.Prelude.{IsUtf8, Result, encode_utf8, encode_utf8_all, if◌then◌else◌, nat_lt, replicate}
+pub use Rattle.std.specs.Prelude.{IsUtf8, Result, encode_utf8, encode_utf8_all, if◌then◌else◌, nat_lt}
 pub use Rattle.std.specs.Result.{IsErrAnd}
 pub use Rattle.std.specs.Str.{IsCharBoundary}
 pub use Rattle.cm_html.specs.Escape.{escape, escape_byte}

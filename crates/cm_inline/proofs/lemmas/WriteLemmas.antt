@@ -28,7 +28,10 @@ write-from a m fs = ap (λ h. write_all (page h m) fs) (sym (append-nil a)) ∙ 
 
 -- nor does the mode after it
 pub mode-same : (a b : List ℕ) (m : Mode) (fs : List Event) → (write_all (page a m) fs).mode ≡ (write_all (page b m) fs).mode
-mode-same a b m fs = search (rules, write-from)
+mode-same a b m fs = ap (λ p. mode p) (write-from a m fs) ∙ sym (ap (λ p. mode p) (write-from b m fs))
+  where
+    mode : Page → Mode
+    mode p = p.mode
 
 pub soft-html : (rendered inlines.Soft).html ≡ 10 ∷ []
 soft-html = simp (fold_out-Inline Rendered inline_step, outs-Soft)

@@ -1,7 +1,6 @@
-use Rattle.cm_inline.proofs.lemmas.Words.{◌≡◌, ◌++◌, ◌-◌}
+use Rattle.cm_inline.proofs.lemmas.Words.{◌≡◌, ◌++◌, ◌-◌, replicate}
 use Rattle.cm_inline.specs.steps.Runs.{byte_of}
 use Rattle.cm_inline.proofs.html_texts.push_left.Given as goal
-use Rattle.std.proofs.Common.{replicate}
 
 -- what was written and what is left are all
 abbrev pub invariant-loop : goal.invariant-loop

@@ -1,9 +1,8 @@
-use Rattle.cm_inline.proofs.lemmas.Words.{◌≡◌, ◌-◌}
+use Rattle.cm_inline.proofs.lemmas.Words.{◌≡◌, ◌-◌, replicate}
 use Rattle.cm_inline.specs.steps.pairing.Events.{add_text}
 use Rattle.cm_inline.specs.steps.Building.{built_in}
 use Rattle.cm_inline.specs.steps.Runs.{byte_of}
 use Rattle.cm_inline.proofs.made.Made.add_left.Given as goal
-use Rattle.std.proofs.Common.{replicate}
 
 -- what was added and what is left are all
 abbrev pub invariant-loop : goal.invariant-loop
