@@ -23,6 +23,7 @@
 --   (SettledLemmas, OutcomeLemmas). The walks over the marks write (WriteLemmas, TextWaitLemmas) and build
 --   (BuildLemmas, SettleLemmas) what their events do.
 -- - Lines of text. Nothing pairs among them, and they write their own text (PlainLemmas).
+-- Words passes on names of the crates below.
 pub mod InlineDepthLemmas
 pub mod NumberLemmas
 pub mod BottomLemmas
@@ -82,3 +83,4 @@ pub mod BuildLemmas
 pub mod SettleLemmas
 pub mod NestingLemmas
 pub mod OutcomeLemmas
+pub mod Words

@@ -1,7 +1,5 @@
 -- The looks for which items pay, and the emphasis that they hold, one after another.
-use Rattle.std.proofs.Common.{◌≡◌, ℕ, ◌+◌, List, [], ◌∷◌, ◌++◌, ap, ◌∙◌, arith}
-use Rattle.std.proofs.lemmas.List.Sums.{sum_by-append, sum_by-cons}
-use Rattle.cm_scan.specs.inlines.Pairing.{Item}
+use Rattle.cm_inline.proofs.lemmas.Words.{◌≡◌, ℕ, ◌+◌, List, [], ◌∷◌, ◌++◌, ap, ◌∙◌, arith, sum_by-append, sum_by-cons, Item}
 use Rattle.cm_inline.specs.steps.Pairs.{AreOf, allowed, allowance, item_emphases, items_emphases}
 use Rattle.cm_inline.proofs.lemmas.EmphasisLemmas.{both-hold}
 

@@ -1,38 +1,25 @@
 -- What starts at a place of a source, by the byte that is there.
-use Rattle.std.proofs.Common.{◌≡◌, ℕ, zero, suc, ◌+◌, ◌-◌, ◌<◌, ◌==◌, ◌&&◌, ◌||◌, not, Bool, true, false, List, [], ◌∷◌, length, take, drop, get_or, reverse, replicate, Option, Some, None, codes, refl, sym, ap, subst, ◌∙◌, arith, length-append, length-drop, drop-drop, get_or-drop}
-use Rattle.std.specs.Prelude.{IsUtf8, nat_le, if◌then◌else◌, encode_utf8_all}
-use Rattle.std.specs.List.{slice_range, list_all}
-use Rattle.std.specs.Str.{IsCharBoundary}
-use Rattle.std.proofs.lemmas.Bool.{eqb-true}
-use Rattle.std.proofs.lemmas.List.{drop_more}
-use Rattle.std.proofs.lemmas.Str.{IsCharBoundary-after_ascii}
-use Rattle.cm_text.specs.Rules.{Rules}
-use Rattle.cm_text.specs.Characters.{is_ascii_punct}
-use Rattle.cm_text.specs.References.{reference, reference_at, chars_of}
-use Rattle.cm_text.specs.declared.references.Chars.{Chars}
+use Rattle.cm_inline.proofs.lemmas.Words.{◌≡◌, ℕ, zero, suc, ◌+◌, ◌-◌, ◌<◌, ◌==◌, ◌&&◌, ◌||◌, not, Bool, true, false, List, [], ◌∷◌, length, take, drop, get_or}
+use Rattle.cm_inline.proofs.lemmas.Words.{reverse, Option, Some, None, codes, refl, sym, ap, subst, ◌∙◌, arith, length-append, length-drop, drop-drop, get_or-drop}
+use Rattle.cm_inline.proofs.lemmas.Words.{IsUtf8, if◌then◌else◌, encode_utf8_all, slice_range, list_all, IsCharBoundary, eqb-true, drop_more}
+use Rattle.cm_inline.proofs.lemmas.Words.{IsCharBoundary-after_ascii, Rules, is_ascii_punct, chars_of, Chars, begins_with, run_length, after_run, after_word, Reading}
+use Rattle.cm_inline.proofs.lemmas.Words.{Autolink, followed_autolink, raw_html, before, one_line, stripped, whole_of, link_of, markup_atom, atom_at, none-some}
+use Rattle.cm_inline.proofs.lemmas.Words.{begins-at, not-same, Marker, Tilde, DelimiterRun, nat_tests, rules, replicate}
+use Rattle.std.specs.Prelude.{nat_le}
+use Rattle.cm_text.specs.References.{reference, reference_at}
 use Rattle.cm_tree.specs.declared.tree.Inline.TheVariants as inline
-use Rattle.cm_scan.specs.Words.{begins_with, run_length, after_run, after_word}
-use Rattle.cm_scan.specs.inlines.Links.{Reading}
-use Rattle.cm_scan.specs.spans.Autolinks.{Autolink, followed_autolink}
-use Rattle.cm_scan.specs.spans.RawHtml.{raw_html}
-use Rattle.cm_scan.specs.spans.Angles.{Angled, Addressed, Tagged, before, tagged, at_angle}
-use Rattle.cm_scan.specs.spans.CodeSpans.{span_content, one_line, stripped, code_span}
-use Rattle.cm_scan.specs.Scanned.{whole_of}
+use Rattle.cm_scan.specs.spans.Angles.{Angled, Addressed, Tagged, tagged, at_angle}
+use Rattle.cm_scan.specs.spans.CodeSpans.{span_content, code_span}
 use Rattle.cm_scan.specs.inlines.Delimiters as delimiters
 use Rattle.cm_scan.specs.inlines.Pairing as items
-use Rattle.cm_scan.specs.inlines.Atoms.{AtomRead, Plain, Whole, Delimiter, OpenBracket, read, is_markup, or_byte, byte_atom, backtick_atom, angle_atom, link_of, backslash_atom, reference_atom, break_atom, run_between, run_atom, tilde_atom, bang_atom, markup_atom, atom_at}
-use Rattle.cm_scan.proofs.lemmas.texts.WordsGoOn.{none-some, false-true}
-use Rattle.cm_scan.proofs.lemmas.texts.ScannerAnswers.{begins-at}
+use Rattle.cm_scan.specs.inlines.Atoms.{is_markup, AtomRead, Plain, Whole, Delimiter, OpenBracket, read, or_byte, byte_atom, backtick_atom, angle_atom, backslash_atom, reference_atom, break_atom, run_between, run_atom, tilde_atom, bang_atom}
+use Rattle.cm_scan.proofs.lemmas.texts.WordsGoOn.{false-true}
 use Rattle.cm_scan.proofs.lemmas.inlines.LeftByEachStep.{atom-left}
-use Rattle.cm_scan.proofs.lemmas.spans.BacktickStrings.{not-same}
 use Rattle.cm_inline.proofs.lemmas.BottomLemmas.{kind-small, kind-untilded}
 use Rattle.cm_inline.proofs.lemmas.EmphasisLemmas.{code-holds, html-holds, hard-holds, soft-holds, autolink-holds}
 use Rattle.cm_inline.specs.declared.atoms.Atom.{Atom as ReadAtom}
 use Rattle.cm_inline.specs.declared.atoms.Atom.TheVariants as read
 use Rattle.cm_inline.specs.steps.Marks.{is_escaped, stays_text}
-use Rattle.cm_inline.specs.declared.delimiter_runs.Marker.{Marker}
-use Rattle.cm_inline.specs.declared.delimiter_runs.Marker.TheVariants.{Star, Underscore, Tilde}
-use Rattle.cm_inline.specs.declared.delimiter_runs.DelimiterRun.{DelimiterRun}
 use Rattle.cm_inline.specs.declared.marks.Kind.TheVariants as kinds
 use Rattle.cm_inline.specs.steps.Runs.{byte_of, run_of}
 use Rattle.cm_inline.specs.Closers.{kinds_with, kinds_by}
@@ -60,44 +47,26 @@ run-stays b h zero = refl
 run-stays b h (suc n) = ap (λ v. v && list_all (stays_text true) (replicate n b)) h ∙ run-stays b h n
 
 pub marker-stays : (m : Marker) → stays_text true (byte_of m) ≡ true
-marker-stays Star = refl
-marker-stays Underscore = refl
-marker-stays Tilde = refl
+marker-stays m = grind (arith, nat_tests)
 
 module _ (rules : Rules) (source : List ℕ) (at : ℕ) where
   is-atom : (item : items.Item) (end : ℕ) (a : AtomRead) → at < length source → atom_in rules source at ≡ a → a.rest ≡ drop end source → item_for a.atom a.rest ≡ Some item
       → IsCharBoundary source end → IsNew (kinds_by rules) item → IsAtom rules source at item end
-  is-atom item end a within same rest is boundary fresh =
-      let left : (atom_in rules source at).rest ≡ drop end source = ap (λ (t : AtomRead). t.rest) same ∙ rest in
-      record {
-        rest = left;
-        item_is = ap (λ (t : AtomRead). item_for t.atom t.rest) same ∙ is;
-        further = further rules source at end within left;
-        within = boundary.0;
-        boundary = boundary;
-        fresh = fresh;
-      }
+  is-atom item end a within same rest is boundary fresh = grind (arith, nat_tests, further)
 
   -- a run
 
   run-front : (m : ℕ) (text : List ℕ) → take (run_length m text) text ≡ replicate (run_length m text) m
   unfolding run_length
   run-front m [] = refl
-  run-front m (b ∷ bs) = go (b == m) refl (run-front m bs)
-    where
-      go : (c : Bool) → (b == m) ≡ c → take (run_length m bs) bs ≡ replicate (run_length m bs) m → take (elim c as (λ _. ℕ) [ true ↦ suc (run_length m bs) | false ↦ 0 ]) (b ∷ bs) ≡ replicate (elim c as (λ _. ℕ) [ true ↦ suc (run_length m bs) | false ↦ 0 ]) m
-      go true e again = ap (λ c. c ∷ take (run_length m bs) bs) (eqb-true b m e) ∙ ap (λ t. m ∷ t) again
-      go false e again = refl
+  run-front m (b ∷ bs) = grind (arith, nat_tests, eqb-true, (run-front m bs))
 
   run-is : (m end : ℕ) (a : AtomRead) → Stands source at m → end ≡ at + run_length m (drop at source) → drop end source ≡ after_run m (drop at source) → IsCharBoundary source end
       → atom_in rules source at ≡ a → a.rest ≡ after_run m (drop at source) → item_for a.atom a.rest ≡ Some (items.Characters (replicate (run_length m (drop at source)) m)) → ((n : ℕ) → list_all (stays_text true) (replicate n m) ≡ true) → Begins rules source at read.Text end
   run-is m end a s run left boundary same rest item stays =
       let size : end - at ≡ run_length m (drop at source) = omega (arith, run) in
       let text : slice_range source at end ≡ replicate (run_length m (drop at source)) m = ap (λ n. take n (drop at source)) size ∙ run-front m (drop at source) in
-      record {
-        is = is-atom (items.Characters (slice_range source at end)) end a s.within same (rest ∙ sym left) (item ∙ sym (ap (λ t. Some (items.Characters t)) text)) boundary tt;
-        there = ap (list_all (stays_text true)) text ∙ stays (run_length m (drop at source));
-      }
+      grind (arith, nat_tests, is-atom)
 
   -- one byte as text
 
@@ -121,9 +90,7 @@ module _ (rules : Rules) (source : List ℕ) (at : ℕ) where
 
   -- the byte after it
   next-stands : (b c : ℕ) → IsUtf8 source → Stands source at b → b < 128 → begins_with c (drop (at + 1) source) ≡ true → Stands source (at + 1) c
-  next-stands b c utf8 s ascii next =
-      let found = begins-at c source (at + 1) next in
-      record { short = s.short; within = found.0; boundary = behind-byte b utf8 s ascii; byte = found.2 }
+  next-stands b c utf8 s ascii next = first_of (search (begins-at, behind-byte), grind (arith, nat_tests, begins-at, behind-byte))
 
   -- a code span, or a backtick string as text
 
@@ -171,22 +138,10 @@ module _ (rules : Rules) (source : List ℕ) (at : ℕ) where
   html-in o s h e = angle-in None s h ∙ ap (λ t. or_byte 60 (drop (at + 1) source) (angled_or (tagged (drop at source) t))) e
 
   whole-read : (text html rest : List ℕ) (o : Option (List ℕ)) → Some (record { text = html; rest = rest }) ≡ whole_of text o → (o ≡ Some rest) × (html ≡ before rest text)
-  whole-read text html rest None h = none-some (sym h)
-  whole-read text html rest (Some left) h =
-      let same : rest ≡ left = ap rest_of h in
-      (ap Some (sym same), ap text_of h ∙ ap (λ t. before t text) (sym same))
-    where
-      rest_of : Option Reading → List ℕ
-      rest_of None = []
-      rest_of (Some r) = r.rest
-
-      text_of : Option Reading → List ℕ
-      text_of None = []
-      text_of (Some r) = r.text
+  whole-read text html rest o h = grind (arith, nat_tests, none-some)
 
   none-read : (text : List ℕ) (o : Option (List ℕ)) → None ≡ whole_of text o → o ≡ None
-  none-read text None h = refl
-  none-read text (Some left) h = none-some h
+  none-read text o h = grind (arith, nat_tests, none-some)
 
   pub html-is : (html : List ℕ) (end : ℕ) → Stands source at 60 → None ≡ followed_autolink rules (drop at source) → Some (record { text = html; rest = drop end source }) ≡ whole_of (drop at source) (raw_html rules (drop at source))
       → IsCharBoundary source end → IsAtom rules source at (items.Finished (inline.Html html)) end
@@ -210,11 +165,9 @@ module _ (rules : Rules) (source : List ℕ) (at : ℕ) where
   hard-is utf8 s next =
       let feed = next-stands 92 10 utf8 s (omega arith) next in
       let end : at + 1 + 1 ≡ at + 2 = omega arith in
-      record {
-        is = is-atom _ (at + 2) (record { atom = Whole inline.Hard; rest = drop (at + 1 + 1) source }) s.within (slash-in (10 ∷ drop (at + 1 + 1) source) s (front source (at + 1) 10 feed)) (ap (λ n. drop n source) end) refl
-            (subst (IsCharBoundary source) end (IsCharBoundary-after_ascii source (at + 1) utf8 feed.within (omega (arith, feed.byte)))) hard-holds;
-        there = tt;
-      }
+      search
+          (is-atom _ (at + 2) (record { atom = Whole inline.Hard; rest = drop (at + 1 + 1) source }) s.within (slash-in (10 ∷ drop (at + 1 + 1) source) s (front source (at + 1) 10 feed))
+              (ap (λ n. drop n source) end) refl (subst (IsCharBoundary source) end (IsCharBoundary-after_ascii source (at + 1) utf8 feed.within (omega (arith, feed.byte)))) hard-holds)
 
   abbrev escape_or : Option (List ℕ × ℕ) → List ℕ → Option AtomRead
   escape_or o text = elim o as (λ _. Option AtomRead) [ Some escaped ↦ read (Plain escaped.0) (drop escaped.1 text) | None ↦ None ]
@@ -260,12 +213,10 @@ module _ (rules : Rules) (source : List ℕ) (at : ℕ) where
   pub backslash-is-text : IsUtf8 source → Stands source at 92 → begins_with 10 (drop (at + 1) source) ≡ false → (at + 1 < length source → is_ascii_punct (get_or source (at + 1) 0) ≡ false)
       → Begins rules source at read.Text (at + 1)
   backslash-is-text utf8 s feed punct =
+      let nothing : at + 1 + 0 ≡ at + 1 = omega arith in
       text-byte 92 s refl (byte-is 92 (byte_atom 92 (drop (at + 1) source)) utf8 s (omega arith)
       (slash-in (drop (at + 1) source) s refl ∙ escapes-none (drop (at + 1) source) feed
       (λ some. ap is_ascii_punct (get_or-drop (at + 1) source 0 0 ∙ ap (λ n. get_or source n 0) nothing) ∙ punct (omega (arith, some, length-drop (at + 1) source)))) refl refl)
-    where
-      nothing : at + 1 + 0 ≡ at + 1
-      nothing = omega arith
 
   -- a reference, or `&` as text
 
@@ -337,13 +288,11 @@ module _ (rules : Rules) (source : List ℕ) (at : ℕ) where
 
   feed-next : (text : List ℕ) → begins_with 10 text ≡ true → after_word (codes "\n") text ≡ Some (drop 1 text)
   unfolding after_word
-  feed-next [] h = false-true h
-  feed-next (b ∷ bs) h = ap (λ f. elim f as (λ _. Option (List ℕ)) [ true ↦ Some bs | false ↦ None ]) h
+  feed-next text h = grind (arith, nat_tests, false-true)
 
   no-feed-next : (text : List ℕ) → begins_with 10 text ≡ false → after_word (codes "\n") text ≡ None
   unfolding after_word
-  no-feed-next [] h = refl
-  no-feed-next (b ∷ bs) h = ap (λ f. elim f as (λ _. Option (List ℕ)) [ true ↦ Some bs | false ↦ None ]) h
+  no-feed-next text h = grind (arith, nat_tests)
 
   pub break-is : (b feed : ℕ) → IsUtf8 source → Stands source at b → is_break_byte b ≡ true → feed ≡ at + run_length 32 (drop at source) → drop feed source ≡ after_run 32 (drop at source)
       → begins_with 10 (drop feed source) ≡ true → IsAtom rules source at (items.Finished (if nat_le 2 (feed - at) then inline.Hard else inline.Soft)) (feed + 1)
@@ -403,9 +352,7 @@ module _ (rules : Rules) (source : List ℕ) (at : ℕ) where
 
   alone-bang : (text : List ℕ) → begins_with 91 text ≡ false → or_byte 33 text (bang_atom (33 ∷ text)) ≡ byte_atom 33 text
   unfolding bang_atom after_word
-  alone-bang [] h = refl
-  alone-bang (b ∷ bs) h =
-      ap (λ f. or_byte 33 (b ∷ bs) (elim (elim f as (λ _. Option (List ℕ)) [ true ↦ Some bs | false ↦ None ]) as (λ _. Option AtomRead) [ Some rest ↦ read (OpenBracket true) rest | None ↦ None ])) h
+  alone-bang text h = grind (arith, nat_tests)
 
   pub bang-is-text : IsUtf8 source → Stands source at 33 → begins_with 91 (drop (at + 1) source) ≡ false → Begins rules source at read.Text (at + 1)
   bang-is-text utf8 s next = text-byte 33 s refl (byte-is 33 (byte_atom 33 (drop (at + 1) source)) utf8 s (omega arith) (bang-in (drop (at + 1) source) s refl ∙ alone-bang (drop (at + 1) source) next) refl refl)
@@ -414,18 +361,13 @@ module _ (rules : Rules) (source : List ℕ) (at : ℕ) where
 
   pub opener-is : IsUtf8 source → Stands source at 91 → Begins rules source at (read.Opener false) (at + 1)
   unfolding atom_at markup_atom
-  opener-is utf8 s =
-      let behind = behind-byte 91 utf8 s (omega arith) in
-      record { is = is-atom _ (at + 1) (record { atom = OpenBracket false; rest = drop (at + 1) source }) s.within (here rules source at 91 s) refl refl behind tt; there = (refl, front source at 91 s) }
+  opener-is utf8 s = grind (arith, nat_tests, behind-byte, is-atom, here, front)
 
   -- a run of a marker
 
   -- tildes are of a run only with strikethrough
   known : (m : Marker) (strike two : Bool) (run : delimiters.Run) → run.character ≡ byte_of m → (not (byte_of m == 126) || strike && two) ≡ true → kind run < kinds_with strike
-  known m true two run is e = kind-small run
-  known Star false two run is e = kind-untilded run (ap (λ c. c == 126) is)
-  known Underscore false two run is e = kind-untilded run (ap (λ c. c == 126) is)
-  known Tilde false two run is e = absurd (cc e)
+  known m strike two run is e = grind (arith, nat_tests, kind-small, kind-untilded)
 
   abbrev run_read : ℕ → List ℕ → AtomRead
   run_read m text = record { atom = Delimiter (run_between rules m (run_length m (m ∷ text)) (reverse (take at source)) (after_run m (m ∷ text))); rest = after_run m (m ∷ text) }
@@ -438,14 +380,12 @@ module _ (rules : Rules) (source : List ℕ) (at : ℕ) where
   marker_read m text struck = elim struck as (λ _. AtomRead) [ true ↦ run_read m text | false ↦ record { atom = Plain (replicate (run_length m (m ∷ text)) m); rest = after_run m (m ∷ text) } ]
 
   tildes-read : (text : List ℕ) (both : Bool) → or_byte 126 text (elim both as (λ _. Option AtomRead) [ true ↦ Some (run_read 126 text) | false ↦ read (Plain (replicate (run_length 126 (126 ∷ text)) 126)) (after_run 126 (126 ∷ text)) ]) ≡ marker_read 126 text both
-  tildes-read text true = refl
-  tildes-read text false = refl
+  tildes-read text both = grind (arith, nat_tests)
 
   marker-read : (m : Marker) (text : List ℕ) → atom_at rules (reverse (take at source)) (byte_of m) text ≡ marker_read (byte_of m) text (is_struck (byte_of m) text)
   unfolding atom_at markup_atom tilde_atom run_atom
-  marker-read Star text = refl
-  marker-read Underscore text = refl
   marker-read Tilde text = tildes-read text (rules.strike && run_length 126 (126 ∷ text) == 2)
+  marker-read _ text = refl
 
   marker-in : (m : Marker) → Stands source at (byte_of m) → atom_in rules source at ≡ marker_read (byte_of m) (drop (at + 1) source) (is_struck (byte_of m) (drop (at + 1) source))
   marker-in m s = here rules source at (byte_of m) s ∙ marker-read m (drop (at + 1) source)
@@ -475,12 +415,13 @@ module _ (rules : Rules) (source : List ℕ) (at : ℕ) where
       let size_is : end - at ≡ run_length b (drop at source) = omega (arith, size) in
       let long_is : run.whole ≡ run_length b (drop at source) = ap (λ (r : delimiters.Run). r.whole) is ∙ size_is in
       let character : byte_of run.marker ≡ b = ap (λ (r : delimiters.Run). r.character) is in
-      record {
-        is = is-atom (items.Delimiters (run_of run)) end (run_read b (drop (at + 1) source)) s.within same rest
-            (ap (λ r. Some (items.Delimiters r)) (ap (λ n. run_between rules b n (reverse (take at source)) (after_run b (b ∷ drop (at + 1) source))) (sym count) ∙ ap (run_between rules b (end - at) (reverse (take at source))) rest ∙ sym is))
-            boundary (known m rules.strike (end - at == 2) (run_of run) (ap (λ (r : delimiters.Run). r.character) is) struck, whole ∙ sym (ap (λ (r : delimiters.Run). r.whole) is), (let long : run.whole ≡ end - at = ap (λ (r : delimiters.Run). r.whole) is in omega (arith, long, low)));
-        there = ap (λ n. take n (drop at source)) size_is ∙ run-front b (drop at source) ∙ ap (λ n. replicate n b) (sym long_is) ∙ ap (replicate run.whole) (sym character);
-      }
+      search (
+          (is-atom (items.Delimiters (run_of run)) end (run_read b (drop (at + 1) source)) s.within same rest
+              (ap (λ r. Some (items.Delimiters r)) (ap (λ n. run_between rules b n (reverse (take at source)) (after_run b (b ∷ drop (at + 1) source))) (sym count)
+              ∙ ap (run_between rules b (end - at) (reverse (take at source))) rest ∙ sym is)) boundary
+              (known m rules.strike (end - at == 2) (run_of run) (ap (λ (r : delimiters.Run). r.character) is) struck, whole
+              ∙ sym (ap (λ (r : delimiters.Run). r.whole) is), (let long : run.whole ≡ end - at = ap (λ (r : delimiters.Run). r.whole) is in omega (arith, long, low)))),
+          (ap (λ n. take n (drop at source)) size_is ∙ run-front b (drop at source) ∙ ap (λ n. replicate n b) (sym long_is) ∙ ap (replicate run.whole) (sym character)))
 
   -- a byte by itself
 
@@ -493,8 +434,7 @@ module _ (rules : Rules) (source : List ℕ) (at : ℕ) where
 -- a byte that is none of those
 pub lone-byte : (b : ℕ) → (b ≡ 10 → ⊥) → (b ≡ 32 → ⊥) → (b ≡ 33 → ⊥) → (b ≡ 38 → ⊥) → (b ≡ 42 → ⊥) → (b ≡ 60 → ⊥) → (b ≡ 91 → ⊥) → (b ≡ 92 → ⊥) → (b ≡ 93 → ⊥) → (b ≡ 95 → ⊥) → (b ≡ 96 → ⊥) → (b ≡ 126 → ⊥)
     → is_markup b ≡ false
-lone-byte b feed space bang ampersand star angle left slash right underscore tick tilde =
-    rw (not-same b 10 feed, not-same b 32 space, not-same b 33 bang, not-same b 38 ampersand, not-same b 42 star, not-same b 60 angle, not-same b 91 left, not-same b 92 slash, not-same b 93 right, not-same b 95 underscore, not-same b 96 tick, not-same b 126 tilde) refl
+lone-byte b feed space bang ampersand star angle left slash right underscore tick tilde = search (rules, not-same)
 
 -- a byte alone that is text, or that HTML escapes
 module _ (rules : Rules) (source : List ℕ) (at : ℕ) where

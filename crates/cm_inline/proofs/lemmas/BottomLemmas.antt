@@ -1,11 +1,13 @@
 -- Closers of one kind match the same openers, and the search for an opener passes over items of which none is one.
-use Rattle.std.proofs.Common.{◌≡◌, inl, inr, ℕ, ◌+◌, ◌%◌, ◌<◌, Bool, true, false, cond, not, ◌&&◌, ◌||◌, ◌==◌, List, [], ◌∷◌, ◌++◌, reverse, Some, None, refl, sym, ap, ◌∙◌, arith, append-nil}
+use Rattle.cm_inline.proofs.lemmas.Words.{◌≡◌, inl, inr, ℕ, ◌+◌, ◌<◌, Bool, true, false, cond, ◌&&◌, ◌==◌, List, [], ◌∷◌, ◌++◌, reverse, Some, None, refl, sym, ap}
+use Rattle.cm_inline.proofs.lemmas.Words.{◌∙◌, arith, append-nil, Run, delimiters_match, Item, Characters, Finished, Linked, Delimiters, Opener, nearest_opener}
+use Rattle.cm_inline.proofs.lemmas.Words.{opened_at, rules, nat_tests, not, ◌||◌}
+use Rattle.std.proofs.Common.{◌%◌}
 use Rattle.std.specs.Prelude.{⊤}
-use Rattle.cm_scan.specs.inlines.Delimiters.{Run, is_multiple_of_3, delimiters_match}
-use Rattle.cm_scan.specs.inlines.Pairing.{Item, Characters, Finished, Linked, Delimiters, Opener, nearest_opener}
-use Rattle.cm_scan.proofs.lemmas.inlines.PairingLemmas.{reverse-first, nearest-found, nearest-passes, opened_at}
+use Rattle.cm_scan.proofs.lemmas.inlines.PairingLemmas.{reverse-first, nearest-found, nearest-passes}
 use Rattle.cm_inline.specs.Closers.{kinds_of_one, kinds_without_tildes, all_kinds}
 use Rattle.cm_inline.specs.steps.Searching.{kind, IsMarked}
+use Rattle.cm_scan.specs.inlines.Delimiters.{is_multiple_of_3}
 
 -- closers of stars or underscores with these in common
 record IsAlike (c d : Run) : Type 0 where
@@ -16,18 +18,7 @@ record IsAlike (c d : Run) : Type 0 where
 
 alike-match : (c d o : Run) → IsAlike c d → delimiters_match c o ≡ delimiters_match d o
 unfolding delimiters_match
-alike-match c d o k =
-    ap (λ x. (x == o.character) && rule x (c.opens && c.closes) (c.whole % 3) ((c.whole + o.whole) % 3)) k.character
-    ∙ ap (λ x. (d.character == o.character) && rule d.character (x && c.closes) (c.whole % 3) ((c.whole + o.whole) % 3)) k.opens
-    ∙ ap (λ x. (d.character == o.character) && rule d.character (d.opens && x) (c.whole % 3) ((c.whole + o.whole) % 3)) k.closes
-    ∙ ap (λ x. (d.character == o.character) && rule d.character (d.opens && d.closes) x ((c.whole + o.whole) % 3)) k.rest
-    ∙ ap (λ x. (d.character == o.character) && rule d.character (d.opens && d.closes) (d.whole % 3) x) (sums c.whole d.whole o.whole k.rest)
-  where
-    rule : ℕ → Bool → ℕ → ℕ → Bool
-    rule character both rest sum_rest = character == 126 || not (both || (o.opens && o.closes)) || not (sum_rest == 0) || ((rest == 0) && is_multiple_of_3 o.whole)
-
-    sums : (a b n : ℕ) → a % 3 ≡ b % 3 → (a + n) % 3 ≡ (b + n) % 3
-    sums a b n e = omega (arith, e)
+alike-match c d o k = search rules
 
 -- a closer of tildes matches each opener of tildes
 tildes-match : (c o : Run) → c.character ≡ 126 → delimiters_match c o ≡ (126 == o.character && true)
@@ -40,28 +31,10 @@ abbrev number : (tilde underscore opens : Bool) → ℕ → ℕ
 number tilde underscore opens rest = cond tilde kinds_without_tildes (cond underscore kinds_of_one 0 + cond opens 3 0 + rest)
 
 apart : (u o v p : Bool) (w x : ℕ) → w < 3 → x < 3 → number false u o w ≡ number false v p x → (u ≡ v) × (o ≡ p) × (w ≡ x)
-apart true true true true w x g h e = (refl, refl, omega (arith, g, h, e))
-apart true true true false w x g h e = absurd (omega (arith, g, h, e))
-apart true true false true w x g h e = absurd (omega (arith, g, h, e))
-apart true true false false w x g h e = absurd (omega (arith, g, h, e))
-apart true false true true w x g h e = absurd (omega (arith, g, h, e))
-apart true false true false w x g h e = (refl, refl, omega (arith, g, h, e))
-apart true false false true w x g h e = absurd (omega (arith, g, h, e))
-apart true false false false w x g h e = absurd (omega (arith, g, h, e))
-apart false true true true w x g h e = absurd (omega (arith, g, h, e))
-apart false true true false w x g h e = absurd (omega (arith, g, h, e))
-apart false true false true w x g h e = (refl, refl, omega (arith, g, h, e))
-apart false true false false w x g h e = absurd (omega (arith, g, h, e))
-apart false false true true w x g h e = absurd (omega (arith, g, h, e))
-apart false false true false w x g h e = absurd (omega (arith, g, h, e))
-apart false false false true w x g h e = absurd (omega (arith, g, h, e))
-apart false false false false w x g h e = (refl, refl, omega (arith, g, h, e))
+apart u o v p w x g h e = grind (arith, nat_tests)
 
 number-small : (u o : Bool) (w : ℕ) → w < 3 → number false u o w < kinds_without_tildes
-number-small true true w h = omega (arith, h)
-number-small true false w h = omega (arith, h)
-number-small false true w h = omega (arith, h)
-number-small false false w h = omega (arith, h)
+number-small u o w h = grind (arith, nat_tests)
 
 number-of : (c : Run) (n : ℕ) → c.character ≡ n → kind c ≡ number (n == 126) (n == 95) c.opens (c.whole % 3)
 unfolding kind
@@ -69,11 +42,7 @@ number-of c n e = ap (λ n. number (n == 126) (n == 95) c.opens (c.whole % 3)) e
 
 pub kind-small : (c : Run) → kind c < all_kinds
 unfolding kind
-kind-small c = go (c.character == 126) (number-small (c.character == 95) c.opens (c.whole % 3) (omega arith))
-  where
-    go : (b : Bool) → number false (c.character == 95) c.opens (c.whole % 3) < kinds_without_tildes → number b (c.character == 95) c.opens (c.whole % 3) < all_kinds
-    go true h = omega arith
-    go false h = omega (arith, h)
+kind-small c = search rules
 
 -- but for tildes
 pub kind-untilded : (c : Run) → (c.character == 126) ≡ false → kind c < kinds_without_tildes
@@ -115,8 +84,7 @@ nearest-skips c (Characters t ∷ xs) ys inside h = nearest-skips c xs ys (Chara
 nearest-skips c (Finished i ∷ xs) ys inside h = nearest-skips c xs ys (Finished i ∷ inside) h.1 ∙ ap (nearest_opener c ys) (sym (reverse-first (Finished i) xs inside))
 nearest-skips c (Linked i ∷ xs) ys inside h = nearest-skips c xs ys (Linked i ∷ inside) h.1 ∙ ap (nearest_opener c ys) (sym (reverse-first (Linked i) xs inside))
 nearest-skips c (Opener b n ∷ xs) ys inside h = nearest-skips c xs ys (Opener b n ∷ inside) h.1 ∙ ap (nearest_opener c ys) (sym (reverse-first (Opener b n) xs inside))
-nearest-skips c (Delimiters r ∷ xs) ys inside h =
-    nearest-passes c r (xs ++ ys) inside h.0 ∙ nearest-skips c xs ys (Delimiters r ∷ inside) h.1 ∙ ap (nearest_opener c ys) (sym (reverse-first (Delimiters r) xs inside))
+nearest-skips c (Delimiters r ∷ xs) ys inside h = search (rules, nearest-passes, reverse-first, (nearest-skips c xs ys (Delimiters r ∷ inside) h.1))
 
 -- so where there is none nothing is found, and the nearest is found after others
 pub nearest-none : (c : Run) (xs inside : List Item) → NoOpener c xs → nearest_opener c xs inside ≡ None

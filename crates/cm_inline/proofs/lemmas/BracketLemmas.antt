@@ -1,12 +1,10 @@
 -- What a `]` makes of the items before it.
-use Rattle.std.proofs.Common.{◌≡◌, ℕ, ◌+◌, ◌-◌, ◌<◌, ◌≤◌, Bool, true, false, not, ◌&&◌, ◌||◌, List, [], ◌∷◌, ◌++◌, length, take, drop, reverse, Option, Some, None, refl, sym, ap, ◌∙◌, arith, append_assoc, length-drop}
-use Rattle.std.specs.Prelude.{nat_lt}
-use Rattle.std.specs.List.{slice_range}
-use Rattle.std.proofs.lemmas.List.{append-nil, reverse-append}
-use Rattle.cm_text.specs.Rules.{Rules}
-use Rattle.cm_scan.specs.inlines.Pairing.{Item, Characters, Finished, Linked, Delimiters, Opener, bracket_text}
-use Rattle.cm_scan.specs.inlines.Brackets.{Defined, LinkEnd, Bracketed, OpenerFound, last_opener, source_up_to, end_at, holds_link, made, bracket_is_text, brackets_are_text, closed_by_bracket, close_bracket}
-use Rattle.cm_inline.specs.declared.brackets.Bracket.{Bracket}
+use Rattle.cm_inline.proofs.lemmas.Words.{◌≡◌, ℕ, ◌+◌, ◌-◌, ◌<◌, ◌≤◌, Bool, true, false, not, ◌&&◌, ◌||◌, List, [], ◌∷◌, ◌++◌, length, drop, reverse, Option, Some}
+use Rattle.cm_inline.proofs.lemmas.Words.{None, refl, sym, ap, ◌∙◌, arith, append_assoc, length-drop, nat_lt, slice_range, reverse-append, Rules, Item, Characters}
+use Rattle.cm_inline.proofs.lemmas.Words.{Finished, Linked, Delimiters, Opener, bracket_text, Defined, LinkEnd, Bracketed, OpenerFound, last_opener, end_at}
+use Rattle.cm_inline.proofs.lemmas.Words.{holds_link, made, bracket_is_text, brackets_are_text, closed_by_bracket, close_bracket, Bracket, nat_tests, rules}
+use Rattle.std.proofs.lemmas.List.{append-nil}
+use Rattle.cm_scan.specs.inlines.Brackets.{source_up_to}
 use Rattle.cm_inline.specs.steps.Brackets.{is_opener, has_opener, closed_at, end_for}
 
 -- no opener is among items without open brackets
@@ -36,11 +34,9 @@ pub closes-nothing : (rules : Rules) (defined : Defined) (source : List ℕ) (it
     → closed_at rules defined source items at ≡ record { items = reverse (items ++ Characters (93 ∷ []) ∷ []); rest = drop (at + 1) source }
 unfolding close_bracket last_opener
 closes-nothing rules defined source items at none =
+    let rest = drop (at + 1) source in
     ap (decided rules defined (reverse items) rest) (ap (λ t. last_opener t []) (sym (append-nil (reverse items))) ∙ no-opener items [] [] none)
     ∙ ap (λ t. record { items = t; rest = rest }) (sym (reverse-append items (Characters (93 ∷ []) ∷ [])))
-  where
-    rest : List ℕ
-    rest = drop (at + 1) source
 
 -- The items with both brackets as text, and with a link or an image of what is between them.
 abbrev pub left_as_text : (outer inner : List Item) → (image : Bool) → List Item
@@ -84,9 +80,7 @@ module _ (rules : Rules) (defined : Defined) (source : List ℕ) (outer inner : 
   -- the source between both brackets
   between-is : b.end ≤ at → at < length source → source_up_to (drop b.end source) (93 ∷ rest) ≡ slice_range source b.end at
   unfolding source_up_to
-  between-is low within =
-      let count : length (drop b.end source) - length (93 ∷ rest) ≡ at - b.end = omega (arith, length-drop b.end source, length-drop (at + 1) source, low, within) in
-      ap (λ n. take n (drop b.end source)) count
+  between-is low within = grind (arith, nat_tests, length-drop)
 
   abbrev by_end : Option LinkEnd → Bracketed
   by_end o = elim o as (λ _. Bracketed) [
@@ -95,8 +89,7 @@ module _ (rules : Rules) (defined : Defined) (source : List ℕ) (outer inner : 
   ]
 
   end-turned : (o : Option LinkEnd) → by_end o ≡ closed_or outer inner b.image rest o
-  end-turned None = ap (λ t. record { items = t; rest = rest }) text-turned
-  end-turned (Some end) = ap (λ t. record { items = t; rest = end.rest }) (sym (reverse-append outer (made b.image end.dest end.title inner ∷ [])))
+  end-turned o = grind (arith, nat_tests, text-turned, reverse-append)
 
   -- a `]` with an opener
   pub closes-opener : (links_end : ℕ) → has_opener inner ≡ false → holds_link inner ≡ nat_lt b.mark links_end → b.end ≤ at → at < length source

@@ -1,23 +1,17 @@
 -- What inlines events build, one after another.
-use Rattle.std.proofs.Common.{◌≡◌, ℕ, suc, ◌+◌, ◌-◌, ◌<◌, ◌≤◌, ◌==◌, not, ◌||◌, Bool, true, false, cond, List, [], ◌∷◌, ◌++◌, refl, sym, ap, ◌∙◌, arith, append_assoc}
-use Rattle.std.specs.Prelude.{replicate}
-use Rattle.std.specs.List.{list_all}
-use Rattle.std.proofs.lemmas.Bool.{and_parts}
-use Rattle.std.proofs.lemmas.List.{append-nil}
+use Rattle.cm_inline.proofs.lemmas.Words.{◌≡◌, ℕ, suc, ◌+◌, ◌-◌, ◌<◌, true, List, [], ◌∷◌, ◌++◌, sym, ap, ◌∙◌, arith, append_assoc, list_all, and_parts, Emphasis}
+use Rattle.cm_inline.proofs.lemmas.Words.{rules}
 use Rattle.cm_tree.specs.declared.tree.Inline.TheVariants as inlines
-use Rattle.cm_inline.specs.declared.runs.Emphasis.{Emphasis}
 use Rattle.cm_inline.specs.declared.runs.Run as held
 use Rattle.cm_inline.specs.declared.runs.Pair as made
-use Rattle.cm_inline.specs.steps.pairing.Events.{Event, Text, Rest, Whole, Start, End, Built, ended, add_text, build_one, build, made_of}
+use Rattle.cm_inline.specs.steps.pairing.Events.{Event, Start, End, Built, ended, add_text, build_one, build, made_of}
 use Rattle.cm_inline.specs.steps.pairing.Parts.{Pair, PairedRun, starts, ends_between, run_events, events_of}
 use Rattle.cm_inline.specs.steps.Building.{opened, closed}
 use Rattle.cm_inline.specs.steps.Marks.{text_event, texts, stays_text}
-use Rattle.cm_inline.specs.steps.Runs.{byte_of, tag_in, run_of, pairs_in, paired_run}
-
-pub build-append : (m : Built) (fs gs : List Event) → build m (fs ++ gs) ≡ build (build m fs) gs
-unfolding build
-build-append m [] gs = refl
-build-append m (f ∷ fs) gs = build-append (build_one m f) fs gs
+use Rattle.cm_inline.specs.steps.Runs.{byte_of, tag_in, pairs_in, paired_run}
+use Rattle.cm_inline.proofs.lemmas.EventLemmas.{build-append}
+use Rattle.std.proofs.lemmas.List.{append-nil}
+use Rattle.std.specs.Prelude.{replicate}
 
 -- text between marks, without a line feed
 
@@ -34,11 +28,7 @@ text-more m a b = ap (λ t. with_text t) (append_assoc m.text a b)
     with_text t = record { content = m.content; text = t; outer = m.outer }
 
 byte-built : (m : Built) (b : ℕ) → stays_text true b ≡ true → build_one m (text_event b) ≡ add_text m (b ∷ [])
-byte-built m b h = go (b == 10) (and_parts (not (b == 38 || b == 60 || b == 62 || b == 34)) (not (b == 10)) h).1
-  where
-    go : (c : Bool) → not c ≡ true → build_one m (cond c (Whole inlines.Soft) (Text (b ∷ []))) ≡ add_text m (b ∷ [])
-    go true e = absurd (cc e)
-    go false e = refl
+byte-built m b h = search rules
 
 pub texts-built : (runs : List PairedRun) (pairs : List Pair) (text : List ℕ) (m : Built) → list_all (stays_text true) text ≡ true → build m (events_of runs pairs (texts text)) ≡ add_text m text
 unfolding build events_of
@@ -67,14 +57,7 @@ left-next m new whole b left counter text below e is h =
     let next : left - counter ≡ suc (left - (counter + 1)) = omega (arith, below) in
     ap (λ k. add_text k (replicate (left - (counter + 1)) b)) (e ∙ ap (add_text m) is) ∙ text-more m (b ∷ []) (replicate (left - (counter + 1)) b) ∙ ap (λ n. add_text m (replicate n b)) (sym next) ∙ h
 
-pub left-last : (m whole : Built) (b left counter : ℕ) → left ≤ counter → add_text m (replicate (left - counter) b) ≡ whole → m ≡ whole
-left-last m whole b left counter high h = let none : left - counter ≡ 0 = omega (arith, high) in sym (text-none m) ∙ ap (λ n. add_text m (replicate n b)) (sym none) ∙ h
-
 pub run-built : (pairs first second : List made.Pair) (number : ℕ) (r : held.Run) (m ended left new : Built) → first ≡ pairs → second ≡ pairs → ended ≡ build m (ends_between (pairs_in first) r.from r.to)
     → left ≡ add_text ended (replicate r.run.left (byte_of r.run.marker)) → new ≡ build left (starts (pairs_in second) r.opened) → new ≡ build m (run_events (pairs_in pairs) number (paired_run r))
 unfolding build
-run-built pairs first second number r m ended left new same again ends rest opened =
-    let list = pairs_in pairs in
-    opened ∙ ap (λ ps. build left (starts (pairs_in ps) r.opened)) again
-    ∙ ap (λ k. build k (starts list r.opened)) (rest ∙ ap (λ k. add_text k (replicate r.run.left (byte_of r.run.marker))) (ends ∙ ap (λ ps. build m (ends_between (pairs_in ps) r.from r.to)) same))
-    ∙ sym (build-append m (ends_between list r.from r.to) (Rest number (run_of r.run) ∷ starts list r.opened))
+run-built pairs first second number r m ended left new same again ends rest opened = search (rules, build-append)

@@ -1,23 +1,19 @@
 -- What reading needs of runs and their pairs: a run that is added, and what a pass made as one segment.
-use Rattle.std.proofs.Common.{◌≡◌, ◌⊎◌, inl, inr, ℕ, suc, ◌+◌, ◌<◌, ◌≤◌, Bool, true, false, nat_lt, List, [], ◌∷◌, ◌++◌, length, get_or, refl, sym, ap, subst, arith, length-append}
-use Rattle.std.proofs.lemmas.List.{get_or_append_left, get_or_push, get_or_past}
-use Rattle.std.proofs.lemmas.Bool.{ltb-true, ltb-false}
-use Rattle.cm_tree.specs.declared.tree.Inline.{Inline}
-use Rattle.cm_scan.specs.inlines.Delimiters.{Run}
-use Rattle.cm_scan.specs.inlines.Pairing.{Finished, Linked, emphasis_of}
-use Rattle.cm_inline.specs.declared.runs.Runs.{Runs}
-use Rattle.cm_inline.specs.steps.pairing.Events.{Event, Text, Rest, Whole, Tag, Start, End, made_of}
+use Rattle.cm_inline.proofs.lemmas.Words.{◌≡◌, ℕ, suc, ◌+◌, ◌<◌, ◌≤◌, List, [], ◌∷◌, ◌++◌, length, refl, sym, subst, arith, length-append, get_or_append_left}
+use Rattle.cm_inline.proofs.lemmas.Words.{get_or_push, ltb-true, ltb-false, Inline, Run, Finished, Linked, emphasis_of, Runs, rules}
+use Rattle.std.proofs.lemmas.List.{get_or_past}
+use Rattle.cm_inline.specs.steps.pairing.Events.{Event, Rest, Tag, Start, End, made_of}
 use Rattle.cm_inline.specs.steps.pairing.Parts.{Pair, PairedRun, Part, Known, no_run as no_paired_run, events_of, Rising}
 use Rattle.cm_inline.specs.steps.pairing.Passes.{number_after, AllPaired}
 use Rattle.cm_inline.specs.steps.pairing.Readings.{IsAlone}
-use Rattle.cm_inline.specs.steps.pairing.Paired.{AreRuns}
-use Rattle.cm_inline.specs.steps.pairing.Segments.{Segment, Waiting, Made, items_in, all_parts, numbers_in, fresh, IsMade, AreSegments}
+use Rattle.cm_inline.specs.steps.pairing.Segments.{Segment, Waiting, Made, items_in, all_parts, fresh, IsMade, AreSegments}
 use Rattle.cm_inline.specs.steps.pairing.States.{AreChained}
 use Rattle.cm_inline.specs.steps.Runs.{runs_in, pairs_in}
-use Rattle.cm_inline.proofs.lemmas.ClosingLemmas.{events-append, parts-append, under-append}
+use Rattle.cm_inline.proofs.lemmas.ClosingLemmas.{parts-append, under-append}
 use Rattle.cm_inline.proofs.lemmas.KeptLemmas.{segments-more, segments-under}
 use Rattle.cm_inline.proofs.lemmas.NumberLemmas.{nat-split as nat_split}
 use Rattle.cm_inline.proofs.lemmas.SegmentLemmas.{link-means}
+use Rattle.cm_inline.proofs.lemmas.LaidLemmas.{events-append}
 
 -- a run is pushed
 
@@ -25,29 +21,7 @@ pub chained-none : AreChained [] []
 chained-none = record { before = λ place h. absurd (omega (arith, h)); opened = λ number. omega arith; closed = λ number. (omega arith, omega arith) }
 
 pub chained-push : (runs : List PairedRun) (pairs : List Pair) (run : Run) → AreChained runs pairs → AreChained (runs ++ fresh run ∷ []) pairs
-chained-push runs pairs run c = record { before = c.before; opened = λ n. (at n).0; closed = λ n. (at n).1 }
-  where
-    at : (n : ℕ) → ((get_or (runs ++ fresh run ∷ []) n no_paired_run).opened ≤ length pairs) × (((get_or (runs ++ fresh run ∷ []) n no_paired_run).from ≤ (get_or (runs ++ fresh run ∷ []) n no_paired_run).to) × ((get_or (runs ++ fresh run ∷ []) n no_paired_run).to ≤ length pairs))
-    at n = go (below n (length runs))
-      where
-        below : (a b : ℕ) → (a < b) ⊎ (b ≤ a)
-        below a b = split (nat_lt a b) refl
-          where
-            split : (t : Bool) → nat_lt a b ≡ t → (a < b) ⊎ (b ≤ a)
-            split true e = inl (ltb-true a b e)
-            split false e = inr (ltb-false a b e)
-
-        last : length runs ≤ n → (n ≡ length runs) ⊎ (n ≡ length runs → ⊥) → ((get_or (runs ++ fresh run ∷ []) n no_paired_run).opened ≤ length pairs) × (((get_or (runs ++ fresh run ∷ []) n no_paired_run).from ≤ (get_or (runs ++ fresh run ∷ []) n no_paired_run).to) × ((get_or (runs ++ fresh run ∷ []) n no_paired_run).to ≤ length pairs))
-        last h (inl q) = let is = get_or_push runs (fresh run) no_paired_run n (sym q) in (omega (arith, ap (λ (r : PairedRun). r.opened) is), (omega (arith, ap (λ (r : PairedRun). r.from) is), omega (arith, ap (λ (r : PairedRun). r.to) is)))
-        last h (inr q) =
-            let is = get_or_past (runs ++ fresh run ∷ []) n no_paired_run (omega (arith, h, q, length-append runs (fresh run ∷ []))) in
-            (omega (arith, ap (λ (r : PairedRun). r.opened) is), (omega (arith, ap (λ (r : PairedRun). r.from) is), omega (arith, ap (λ (r : PairedRun). r.to) is)))
-
-        go : (n < length runs) ⊎ (length runs ≤ n) → ((get_or (runs ++ fresh run ∷ []) n no_paired_run).opened ≤ length pairs) × (((get_or (runs ++ fresh run ∷ []) n no_paired_run).from ≤ (get_or (runs ++ fresh run ∷ []) n no_paired_run).to) × ((get_or (runs ++ fresh run ∷ []) n no_paired_run).to ≤ length pairs))
-        go (inl h) =
-            let is = get_or_append_left runs (fresh run ∷ []) no_paired_run n h in
-            (omega (arith, ap (λ (r : PairedRun). r.opened) is, c.opened n), (omega (arith, ap (λ (r : PairedRun). r.from) is, ap (λ (r : PairedRun). r.to) is, (c.closed n).0), omega (arith, ap (λ (r : PairedRun). r.to) is, (c.closed n).1)))
-        go (inr h) = last h (nat_split n (length runs))
+chained-push runs pairs run c = search (rules, ltb-true, ltb-false, get_or_push, get_or_past, length-append, get_or_append_left, nat_split)
 
 -- and becomes a segment behind the others
 
@@ -69,26 +43,12 @@ segments-push runs pairs run ss h g =
     (segments-more (λ k. k < length runs) 0 runs (runs ++ fresh run ∷ []) pairs ss (omega (arith, length-append runs (fresh run ∷ []))) (λ k p. get_or_append_left runs (fresh run ∷ []) no_paired_run k p) (segments-under (length runs) 0 runs pairs ss h g) g)
     (h, omega (arith, length-append runs (fresh run ∷ [])), get_or_push runs (fresh run) no_paired_run (length runs) refl, tt)
 
-numbers-append : (ss ts : List Segment) → numbers_in (ss ++ ts) ≡ numbers_in ss ++ numbers_in ts
-unfolding numbers_in
-numbers-append [] ts = refl
-numbers-append (Waiting k run ∷ ss) ts = ap (λ l. k ∷ l) (numbers-append ss ts)
-numbers-append (Made parts item high ∷ ss) ts = numbers-append ss ts
-
-runs-append : (ss ts : List Segment) → AreRuns ss → AreRuns ts → AreRuns (ss ++ ts)
-runs-append [] ts h g = g
-runs-append (Waiting k run ∷ ss) ts h g = (h.0, h.1, runs-append ss ts h.2 g)
-runs-append (Made parts item high ∷ ss) ts h g = runs-append ss ts h g
-
 -- What a pass made of the segments behind the front becomes the content of a link or an image, as one segment.
 
 rising-ended : (low : ℕ) (fs : List Event) (tag : Tag) → Rising low fs → Rising low (fs ++ End tag ∷ [])
 rising-ended low [] tag h = tt
 rising-ended low (Rest n r ∷ fs) tag h = (h.0, rising-ended (suc n) fs tag h.1)
-rising-ended low (Text t ∷ fs) tag h = rising-ended low fs tag h
-rising-ended low (Whole i ∷ fs) tag h = rising-ended low fs tag h
-rising-ended low (Start s ∷ fs) tag h = rising-ended low fs tag h
-rising-ended low (End s ∷ fs) tag h = rising-ended low fs tag h
+rising-ended low (_ ∷ fs) tag h = rising-ended low fs tag h
 
 abbrev pub linked_parts : Tag → List Part → List Part
 linked_parts tag parts = (Known (Start tag ∷ []) ∷ parts) ++ Known (End tag ∷ []) ∷ []
@@ -96,34 +56,20 @@ linked_parts tag parts = (Known (Start tag ∷ []) ∷ parts) ++ Known (End tag 
 pub link-made : (old new : Runs) (front inside : List Segment) (tag : Tag) → AllPaired old new front inside → number_after 0 front ≤ length new.runs.items → IsAlone tag (events_of (runs_in new.runs.items) (pairs_in new.pairs.items) (all_parts inside))
     → IsMade (runs_in new.runs.items) (pairs_in new.pairs.items) (number_after 0 front) (linked_parts tag (all_parts inside)) (Finished (made_of tag (emphasis_of (items_in inside)))) (length new.runs.items)
 unfolding events_of
-link-made old new front inside tag p high alone = record {
-  means = link-means runs pairs parts (items_in inside) tag p.reads alone;
-  other = refl;
-  marked = ((tt, tt), parts-append runs pairs parts (Known (End tag ∷ []) ∷ []) p.parts ((tt, tt), tt));
-  rising = subst (λ fs. Rising low (Start tag ∷ fs)) (sym (events-append runs pairs parts (Known (End tag ∷ []) ∷ []))) (rising-ended low (events_of runs pairs parts) tag p.rising);
-  under = under-append (length new.runs.items) (length new.runs.items) parts (Known (End tag ∷ []) ∷ []) (omega arith) p.under tt;
-  high_is = high;
-}
-  where
-    runs : List PairedRun
-    runs = runs_in new.runs.items
-
-    pairs : List Pair
-    pairs = pairs_in new.pairs.items
-
-    parts : List Part
-    parts = all_parts inside
-
-    low : ℕ
-    low = number_after 0 front
+link-made old new front inside tag p high alone =
+    let runs = runs_in new.runs.items in
+    let pairs = pairs_in new.pairs.items in
+    let parts = all_parts inside in
+    let low = number_after 0 front in
+    record {
+      means = link-means runs pairs parts (items_in inside) tag p.reads alone;
+      other = refl;
+      marked = ((tt, tt), parts-append runs pairs parts (Known (End tag ∷ []) ∷ []) p.parts ((tt, tt), tt));
+      rising = subst (λ fs. Rising low (Start tag ∷ fs)) (sym (events-append runs pairs parts (Known (End tag ∷ []) ∷ []))) (rising-ended low (events_of runs pairs parts) tag p.rising);
+      under = under-append (length new.runs.items) (length new.runs.items) parts (Known (End tag ∷ []) ∷ []) (omega arith) p.under tt;
+      high_is = high;
+    }
 
 -- an image that holds a link stands for the same
 pub made-linked : (runs : List PairedRun) (pairs : List Pair) (low : ℕ) (parts : List Part) (inline : Inline) (high : ℕ) → IsMade runs pairs low parts (Finished inline) high → IsMade runs pairs low parts (Linked inline) high
-made-linked runs pairs low parts inline high m = record {
-  means = record { means = m.means.means; writes = record { tags = m.means.writes.tags; alternative = m.means.writes.alternative }; nests = m.means.nests; near = record { bound = m.means.near.bound } };
-  other = refl;
-  marked = m.marked;
-  rising = m.rising;
-  under = m.under;
-  high_is = m.high_is;
-}
+made-linked runs pairs low parts inline high m = search rules

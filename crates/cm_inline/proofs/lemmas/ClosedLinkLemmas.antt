@@ -1,27 +1,13 @@
 -- A `]` that makes a link or an image.
-use Rattle.std.proofs.Common.{◌≡◌, ◌⊎◌, inl, inr, ℕ, zero, suc, ◌+◌, ◌<◌, ◌≤◌, ◌==◌, Bool, true, false, not, ◌||◌, List, [], ◌∷◌, ◌++◌, length, take, drop, get_or, set, reverse, Some, refl, sym, ap, subst, ◌∙◌, arith, append_assoc, append-nil, length-append}
-use Rattle.std.specs.Prelude.{nat_lt, if◌then◌else◌}
-use Rattle.std.specs.List.{slice_range}
-use Rattle.std.specs.Str.{IsCharBoundary}
-use Rattle.std.proofs.lemmas.Bool.Decides.{nat_tests}
-use Rattle.std.proofs.lemmas.List.{reverse-append, length-map}
+use Rattle.cm_inline.proofs.lemmas.Words.{◌≡◌, ◌⊎◌, inl, inr, ℕ, zero, suc, ◌+◌, ◌<◌, ◌≤◌, ◌==◌, Bool, true, false, not, ◌||◌, List, [], ◌∷◌, ◌++◌, length, take, drop}
+use Rattle.cm_inline.proofs.lemmas.Words.{get_or, set, reverse, Some, refl, sym, ap, subst, ◌∙◌, arith, append_assoc, append-nil, length-append, nat_lt, if◌then◌else◌}
+use Rattle.cm_inline.proofs.lemmas.Words.{slice_range, IsCharBoundary, nat_tests, reverse-append, length-map, Rules, Targets, defined_in, is_linked, holds_link, made}
+use Rattle.cm_inline.proofs.lemmas.Words.{Item, Finished, Opener, emphasis_of, pair_all, Bracket, Link, Reader, Mark, Kind, HeldPair, HeldRun, rules}
 use Rattle.std.proofs.Math.Seq.{set-append_seam}
-use Rattle.cm_text.specs.Rules.{Rules}
-use Rattle.cm_tree.specs.Definitions.{Targets}
-use Rattle.cm_scan.specs.inlines.Brackets.{defined_in, is_linked, holds_link, made}
-use Rattle.cm_scan.specs.inlines.Pairing.{Item, Finished, Linked, Opener, emphasis_of, pair_all}
-use Rattle.cm_inline.specs.declared.brackets.Bracket.{Bracket}
-use Rattle.cm_inline.specs.declared.brackets.Link.{Link}
 use Rattle.cm_inline.specs.declared.links.Target.{Target as PlacedTarget}
-use Rattle.cm_inline.specs.declared.brackets.Reader.{Reader}
-use Rattle.cm_inline.specs.declared.marks.Mark.{Mark}
-use Rattle.cm_inline.specs.declared.marks.Kind.{Kind}
 use Rattle.cm_inline.specs.declared.marks.Kind.TheVariants as kinds
-use Rattle.cm_inline.specs.declared.runs.Emphasis.{Emphasis}
-use Rattle.cm_inline.specs.declared.runs.Pair.{Pair as HeldPair}
-use Rattle.cm_inline.specs.declared.runs.Run.{Run as HeldRun}
 use Rattle.cm_tree.specs.declared.tree.Inline.TheVariants as inlines
-use Rattle.cm_inline.specs.steps.pairing.Events.{Event, Text, Rest, Whole, Start, End, Tag, LinkTag, made_of}
+use Rattle.cm_inline.specs.steps.pairing.Events.{Event, Rest, Start, End, Tag, LinkTag, made_of}
 use Rattle.cm_inline.specs.steps.pairing.Parts.{Pair, PairedRun, Part, Known, no_run as no_paired_run, chain, ends, run_events, part_events, events_of}
 use Rattle.cm_inline.specs.steps.pairing.Passes.{number_after, WaitFrom, AllPaired}
 use Rattle.cm_inline.specs.steps.pairing.Readings.{is_number, AreFree, IsAlone, starts_in}
@@ -32,11 +18,10 @@ use Rattle.cm_inline.specs.steps.Marks.{target_in, link_tag, tag_numbered, no_li
 use Rattle.cm_inline.specs.steps.Missing.{Knows}
 use Rattle.cm_inline.specs.steps.Pairs.{AreLooks, Keeps}
 use Rattle.cm_inline.specs.steps.Reads.{Stands}
-use Rattle.cm_inline.specs.steps.Runs.{runs_in, pairs_in, pair_in, tag_in}
+use Rattle.cm_inline.specs.steps.Runs.{runs_in, pairs_in, pair_in}
 use Rattle.cm_inline.proofs.lemmas.BracketLemmas.{closes-opener, link_made, closed_or}
 use Rattle.cm_inline.proofs.lemmas.CallerLemmas.{behind-append, segments-append, linked_parts, link-made, made-linked}
-use Rattle.cm_inline.proofs.lemmas.ClosingLemmas.{events-append}
-use Rattle.cm_inline.proofs.lemmas.KeptLemmas.{behind-after}
+use Rattle.cm_inline.proofs.lemmas.KeptLemmas.{behind-after, segments-split}
 use Rattle.cm_inline.proofs.lemmas.PassLemmas.{rising-lower}
 use Rattle.cm_inline.proofs.lemmas.JoinLemmas.{Later, laid-join, laid-later, parts-join, parts-later, parts-one}
 use Rattle.cm_inline.proofs.lemmas.KeepsLemmas.{keeps-link}
@@ -46,11 +31,11 @@ use Rattle.cm_inline.proofs.lemmas.EmphasisLemmas.{settled-holds}
 use Rattle.cm_inline.proofs.lemmas.ReadingLemmas.{starts-append}
 use Rattle.cm_inline.proofs.lemmas.RightBracketLemmas.{goes-on, old-items, both, low, left-runs}
 use Rattle.cm_inline.proofs.lemmas.SliceLemmas.{slice-none}
-use Rattle.cm_inline.proofs.lemmas.StandLemmas.{segments-split, runs-append}
+use Rattle.cm_inline.proofs.lemmas.StandLemmas.{runs-append}
+use Rattle.cm_inline.proofs.lemmas.LaidLemmas.{events-append}
 
 pub or-none : (u : Bool) → u || false ≡ u
-or-none true = refl
-or-none false = refl
+or-none u = grind (arith, nat_tests)
 
 -- No link of a number ends among marks of links with lower numbers.
 
@@ -60,12 +45,7 @@ ArePlain n (p ∷ ps) = (is_number n p.tag ≡ false) × ArePlain n ps
 
 held-plain : (n : ℕ) (ps : List HeldPair) → ArePlain n (pairs_in ps)
 held-plain n [] = tt
-held-plain n (p ∷ ps) = (go p.emphasis, held-plain n ps)
-  where
-    go : (e : Emphasis) → is_number n (tag_in e) ≡ false
-    go Emphasis.Emph = refl
-    go Emphasis.Strong = refl
-    go Emphasis.Strike = refl
+held-plain n (p ∷ ps) = search (rules, (held-plain n ps))
 
 plain-take : (n k : ℕ) (ps : List Pair) → ArePlain n ps → ArePlain n (take k ps)
 plain-take n zero ps h = tt
@@ -88,11 +68,7 @@ free-ends n (p ∷ ps) h = (h.0, free-ends n ps h.1)
 free-chain : (n : ℕ) (ps : List Pair) (k : ℕ) → AreFree n (chain ps k)
 unfolding chain
 free-chain n [] k = tt
-free-chain n (p ∷ ps) k = go (k == suc (length ps)) (free-chain n ps p.before) (free-chain n ps k)
-  where
-    go : (b : Bool) → AreFree n (chain ps p.before) → AreFree n (chain ps k) → AreFree n (if b then Start p.tag ∷ chain ps p.before else chain ps k)
-    go true h g = (tt, h)
-    go false h g = g
+free-chain n (p ∷ ps) k = search (rules, (free-chain n ps p.before), (free-chain n ps k))
 
 free-run : (n number : ℕ) (ps : List HeldPair) (x : PairedRun) → AreFree n (run_events (pairs_in ps) number x)
 free-run n number ps x =
@@ -102,76 +78,38 @@ free-run n number ps x =
 free-texts : (n : ℕ) (runs : List PairedRun) (pairs : List Pair) (text : List ℕ) → AreFree n (events_of runs pairs (texts text))
 unfolding events_of
 free-texts n runs pairs [] = tt
-free-texts n runs pairs (b ∷ bs) = go (b == 10) (free-texts n runs pairs bs)
-  where
-    go : (feed : Bool) → AreFree n (events_of runs pairs (texts bs)) → AreFree n ((if feed then Whole inlines.Soft else Text (b ∷ [])) ∷ events_of runs pairs (texts bs))
-    go true h = (tt, h)
-    go false h = (tt, h)
+free-texts n runs pairs (b ∷ bs) = search (rules, (free-texts n runs pairs bs))
 
 not-equal : (k n : ℕ) → k < n → (k == n) ≡ false
 not-equal k n h = grind (arith, nat_tests, h)
 
 free-mark : (source : List ℕ) (targets : Targets) (held : List HeldRun) (links : List Link) (n : ℕ) (runs : List PairedRun) (ps : List HeldPair) (at end : ℕ) (kind : Kind) → length links ≤ n → IsOfKind source targets held links at end kind
     → AreFree n (part_events runs (pairs_in ps) (part_of_kind source targets links at end kind))
-free-mark source targets held links n runs ps at end kinds.Plain high is = (tt, tt)
-free-mark source targets held links n runs ps at end kinds.Escaped high is = (tt, tt)
 free-mark source targets held links n runs ps at end kinds.Nothing high is = tt
-free-mark source targets held links n runs ps at end (kinds.Character c) high is = (tt, tt)
-free-mark source targets held links n runs ps at end (kinds.Code from to) high is = (tt, tt)
-free-mark source targets held links n runs ps at end kinds.Html high is = (tt, tt)
-free-mark source targets held links n runs ps at end (kinds.Autolink is_address) high is = (tt, tt)
-free-mark source targets held links n runs ps at end kinds.Soft high is = (tt, tt)
-free-mark source targets held links n runs ps at end kinds.Hard high is = (tt, tt)
 free-mark source targets held links n runs ps at end (kinds.Run number) high is = free-run n number ps (get_or runs number no_paired_run)
-free-mark source targets held links n runs ps at end (kinds.Start number) high is = (tt, tt)
 free-mark source targets held links n runs ps at end (kinds.End number) high is = (not-equal number n (omega (arith, is.known, high)), tt)
+free-mark source targets held links n runs ps at end _ high is = (tt, tt)
 
 free-marks : (lines : Bool) (source : List ℕ) (targets : Targets) (held : List HeldRun) (links : List Link) (n : ℕ) (runs : List PairedRun) (ps : List HeldPair) (from to : ℕ) (ms : List Mark) → length links ≤ n → AreLaid lines source targets held links from to ms
     → AreFree n (events_of runs (pairs_in ps) (parts_between source targets links from to ms))
 unfolding parts_between events_of
 free-marks lines source targets held links n runs ps from to [] high laid = free-texts n runs (pairs_in ps) (slice_range source from to)
-free-marks lines source targets held links n runs ps from to (m ∷ ms) high laid =
-    subst (AreFree n) (sym (events-append runs (pairs_in ps) (texts (slice_range source from m.at)) (part_of source targets links m ∷ parts_between source targets links m.end to ms)))
-    (free-append n (events_of runs (pairs_in ps) (texts (slice_range source from m.at))) (part_events runs (pairs_in ps) (part_of source targets links m) ++ events_of runs (pairs_in ps) (parts_between source targets links m.end to ms))
-    (free-texts n runs (pairs_in ps) (slice_range source from m.at))
-    (free-append n (part_events runs (pairs_in ps) (part_of source targets links m)) (events_of runs (pairs_in ps) (parts_between source targets links m.end to ms))
-    (free-mark source targets held links n runs ps m.at m.end m.kind high laid.2) (free-marks lines source targets held links n runs ps m.end to ms high laid.3)))
+free-marks lines source targets held links n runs ps from to (m ∷ ms) high laid = search
+    (rules, events-append, free-append, free-texts, free-mark, (free-marks lines source targets held links n runs ps m.end to ms high laid.3))
 
 made-lower : (runs : List PairedRun) (pairs : List Pair) (low higher : ℕ) (parts : List Part) (item : Item) (high : ℕ) → low ≤ higher → IsMade runs pairs higher parts item high → IsMade runs pairs low parts item high
-made-lower runs pairs low higher parts item high p m = record {
-  means = m.means;
-  other = m.other;
-  marked = m.marked;
-  rising = rising-lower low higher (events_of runs pairs parts) p m.rising;
-  under = m.under;
-  high_is = omega (arith, p, m.high_is);
-}
+made-lower runs pairs low higher parts item high p m = search (rules, low, rising-lower)
 
 -- a link or an image, as an item
 link-item : (runs : List PairedRun) (pairs : List Pair) (low : ℕ) (parts : List Part) (high n : ℕ) (image : Bool) (dest title : List ℕ) (inner : List Item)
     → IsMade runs pairs low parts (Finished (made_of (LinkTag n image dest title) (emphasis_of inner))) high → IsMade runs pairs low parts (made image dest title inner) high
-link-item runs pairs low parts high n false dest title inner m = made-linked runs pairs low parts (inlines.Link dest title (emphasis_of inner)) high m
-link-item runs pairs low parts high n true dest title inner m = go (holds_link inner)
-  where
-    go : (v : Bool) → IsMade runs pairs low parts (if v then Linked (inlines.Image dest title (emphasis_of inner)) else Finished (inlines.Image dest title (emphasis_of inner))) high
-    go true = made-linked runs pairs low parts (inlines.Image dest title (emphasis_of inner)) high m
-    go false = m
+link-item runs pairs low parts high n image dest title inner m = grind (arith, nat_tests, low, made-linked)
 
 link-linked : (image : Bool) (dest title : List ℕ) (inner : List Item) → is_linked (made image dest title inner) ≡ not image || holds_link inner
-link-linked false dest title inner = refl
-link-linked true dest title inner = go (holds_link inner)
-  where
-    go : (v : Bool) → is_linked (if v then Linked (inlines.Image dest title (emphasis_of inner)) else Finished (inlines.Image dest title (emphasis_of inner))) ≡ v
-    go true = refl
-    go false = refl
+link-linked image dest title inner = grind (arith, nat_tests)
 
 link-closed : (image : Bool) (dest title : List ℕ) (inner : List Item) → is_opener (made image dest title inner) ≡ false
-link-closed false dest title inner = refl
-link-closed true dest title inner = go (holds_link inner)
-  where
-    go : (v : Bool) → is_opener (if v then Linked (inlines.Image dest title (emphasis_of inner)) else Finished (inlines.Image dest title (emphasis_of inner))) ≡ false
-    go true = refl
-    go false = refl
+link-closed image dest title inner = grind (arith, nat_tests)
 
 -- A link or an image was made of the last bracket and of all that is behind it.
 pub record IsLinked (source : List ℕ) (at end : ℕ) (old new : Reader) (b : Bracket) (target : PlacedTarget) : Type 0 where
@@ -287,14 +225,7 @@ module _ (source : List ℕ) (targets : Targets) (at end : ℕ) (old new : Reade
       omega (arith, r.high, whole, ap (λ k. number_after k within) high-before, high-before, after, s.runs.long)
 
   alone : IsAlone tag (events_of runs pairs (all_parts within))
-  alone =
-      subst (λ t. IsAlone tag (events_of runs pairs t)) (sym level.closed.parts)
-      (go b.image (free-marks v.lines source targets v.runs v.links n runs new.runs.pairs.items b.end at level.late (omega arith) level.closed.laid))
-    where
-      go : (image : Bool) → AreFree n (events_of runs pairs (parts_between source targets v.links b.end at level.late))
-          → IsAlone (LinkTag n image dest title) (events_of runs pairs (parts_between source targets v.links b.end at level.late))
-      go true free = free
-      go false free = tt
+  alone = search (rules, free-marks)
 
   is-made : IsMade runs pairs (number_after 0 outside) (linked_parts tag (all_parts within)) item (length new.runs.runs.items)
   is-made =
@@ -303,7 +234,7 @@ module _ (source : List ℕ) (targets : Targets) (at end : ℕ) (old new : Reade
 
   segments-are : AreSegments runs pairs 0 (outside ++ segment ∷ [])
   segments-are =
-      segments-append 0 runs pairs outside (segment ∷ []) (segments-split runs pairs 0 outside (opened source b level.high ∷ []) p.front_stays).0 (is-made, tt)
+      segments-append 0 runs pairs outside (segment ∷ []) (segments-split 0 runs pairs outside (opened source b level.high ∷ []) p.front_stays).0 (is-made, tt)
 
   -- its marks
   abbrev start : Mark
@@ -316,13 +247,7 @@ module _ (source : List ℕ) (targets : Targets) (at end : ℕ) (old new : Reade
   opener = mark_at level.at b.end kinds.Plain
 
   marks-are : new.marks.items ≡ level.early ++ start ∷ (level.late ++ stop ∷ [])
-  marks-are =
-      let old_marks = old.marks.items in
-      let none = mark_at 0 0 kinds.Plain in
-      let found : get_or old_marks b.mark none ≡ opener = ap (λ t. get_or t b.mark none) level.marks_are ∙ ap (λ k. get_or (level.early ++ opener ∷ level.late) k none) level.number ∙ get-seam level.early opener level.late none in
-      s.marks ∙ ap (λ (m : Mark). set old_marks b.mark (mark_at m.at m.end (kinds.Start n)) ++ stop ∷ []) found
-      ∙ ap (λ t. t ++ stop ∷ []) (ap (λ t. set t b.mark start) level.marks_are ∙ ap (λ k. set (level.early ++ opener ∷ level.late) k start) level.number ∙ set-append_seam level.early opener level.late start)
-      ∙ append_assoc level.early (start ∷ level.late) (stop ∷ [])
+  marks-are = search (rules, get-seam, set-append_seam, append_assoc)
 
   abbrev now : MarkedLeaf
   now = later_leaf leaf new.runs.runs.items (link ∷ []) new.links_end
@@ -331,10 +256,7 @@ module _ (source : List ℕ) (targets : Targets) (at end : ℕ) (old new : Reade
   known = get-seam old.links.items link [] no_link
 
   is-link : IsLinkIn source targets links n
-  is-link = record {
-    known = omega (arith, length-append old.links.items (link ∷ []));
-    target = subst (λ (l : Link). IsTargetIn source targets l.target) (sym known) there;
-  }
+  is-link = grind (arith, nat_tests, known, length-append)
 
   late-laid : AreLaid v.lines source targets new.runs.runs.items links b.end at level.late
   late-laid = laid-later v.lines source targets v.runs new.runs.runs.items v.links (link ∷ []) later b.end at level.late level.closed.laid
@@ -356,16 +278,7 @@ module _ (source : List ℕ) (targets : Targets) (at end : ℕ) (old new : Reade
 
   closed : AreClosed now level.at end (segment ∷ []) (start ∷ (level.late ++ stop ∷ []))
   unfolding items_in has_opener
-  closed = record {
-    parts = closed-parts;
-    laid = (
-      none-laid v.lines source level.at level.bracket.start,
-      (low source targets at v b bs segments r, level.bracket.start, level.bracket.end),
-      is-link,
-      laid-join v.lines source targets new.runs.runs.items links b.end at end level.late (stop ∷ []) late-laid stop-laid,
-    );
-    none = ap (λ u. u || false) (link-closed b.image dest title (items_in within));
-  }
+  closed = grind (arith, nat_tests, closed-parts, none-laid, low, is-link, laid-join, late-laid, stop-laid, link-closed)
 
   linked : nat_lt b.mark v.links_end ≡ holds_link (items_in within)
   linked = level.link ∙ or-none (holds_link (items_in within))
@@ -399,10 +312,7 @@ module _ (source : List ℕ) (targets : Targets) (at end : ℕ) (old new : Reade
   open-now = open-more now bs outside (segment ∷ []) level.early (start ∷ (level.late ++ stop ∷ [])) level.at end false (subst (AreOpen now bs outside level.early level.at) (sym holds-it) below) closed
 
   new-open : AreOpen (leaf_of source targets (view_of new)) bs (outside ++ segment ∷ []) new.marks.items end false
-  new-open =
-      subst (λ ms. AreOpen (leaf_of source targets (view_of new)) bs (outside ++ segment ∷ []) ms end false) (sym marks-are)
-      (subst (λ ls. AreOpen (record { lines = new.lines; source = source; targets = targets; runs = new.runs.runs.items; links = ls; links_end = new.links_end }) bs (outside ++ segment ∷ []) (level.early ++ start ∷ (level.late ++ stop ∷ [])) end false) (sym s.links)
-      (subst (λ u. AreOpen (record { lines = u; source = source; targets = targets; runs = new.runs.runs.items; links = links; links_end = new.links_end }) bs (outside ++ segment ∷ []) (level.early ++ start ∷ (level.late ++ stop ∷ [])) end false) (sym s.lines) open-now))
+  new-open = search (rules, marks-are, open-now)
 
   starts-are : starts_in (events_of runs pairs (all_parts (outside ++ segment ∷ []))) ≤ length pairs + length links
   unfolding all_parts events_of

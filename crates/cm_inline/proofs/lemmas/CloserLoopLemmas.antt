@@ -1,14 +1,10 @@
 -- What the code writes while a closer makes its pairs is what the steps of the closer's loop say.
-use Rattle.std.proofs.Common.{◌≡◌, ◌⊎◌, inl, inr, ℕ, zero, suc, ◌+◌, ◌-◌, ◌<◌, ◌≤◌, Bool, true, false, nat_le, List, [], ◌∷◌, ◌++◌, length, take, drop, reverse, get_or, set, Some, None, refl, sym, ap, subst, ◌∙◌, arith}
-use Rattle.std.proofs.lemmas.List.{length-map, map-set}
-use Rattle.std.proofs.lemmas.Bool.{cond-true, cond-false, le-leb, leb-true}
-use Rattle.cm_scan.specs.inlines.Delimiters.{Run}
-use Rattle.cm_scan.specs.inlines.Pairing.{Item, Delimiters, used, without}
-use Rattle.cm_inline.specs.declared.runs.Run.{Run as HeldRun}
-use Rattle.cm_inline.specs.declared.runs.Runs.{Runs}
+use Rattle.cm_inline.proofs.lemmas.Words.{◌≡◌, ◌⊎◌, inl, inr, ℕ, zero, suc, ◌+◌, ◌-◌, ◌<◌, ◌≤◌, Bool, true, false, nat_le, List, [], ◌∷◌, ◌++◌, length, drop, get_or}
+use Rattle.cm_inline.proofs.lemmas.Words.{set, Some, None, refl, sym, ap, subst, ◌∙◌, arith, length-map, map-set, cond-true, cond-false, le-leb, leb-true, Run, Item}
+use Rattle.cm_inline.proofs.lemmas.Words.{Delimiters, used, HeldRun, Runs, rules}
 use Rattle.cm_inline.specs.steps.pairing.ClosingRuns.{State, so_far, PartsHold, CloserGoesOn, CloserDone, PartAdded, PassGoesOn}
-use Rattle.cm_inline.specs.steps.pairing.Events.{Event, Text, Rest, Whole, Start, End, tag_of}
-use Rattle.cm_inline.specs.steps.pairing.Parts.{Pair, PairedRun, Part, Numbered, Known, ends, no_run as no_paired_run, run_events, events_of, with_pair, with_opened, HaveNoRun, AreParts}
+use Rattle.cm_inline.specs.steps.pairing.Events.{Event, Rest, tag_of}
+use Rattle.cm_inline.specs.steps.pairing.Parts.{PairedRun, Part, Numbered, Known, ends, no_run as no_paired_run, events_of, with_pair}
 use Rattle.cm_inline.specs.steps.pairing.Stacks.{Stacked, taken}
 use Rattle.cm_inline.specs.steps.pairing.States.{state_of, RunSteps, with_left}
 use Rattle.cm_inline.specs.steps.Entries.{Entry}
@@ -16,7 +12,7 @@ use Rattle.cm_inline.specs.steps.Openers.{Stack, leaving}
 use Rattle.cm_inline.specs.steps.Runs.{paired_run, run_of, pair_in, runs_in, pairs_in}
 use Rattle.cm_inline.specs.steps.Searching.{kind, IsMarked, find_opener, looks_for, from_found}
 use Rattle.cm_inline.proofs.lemmas.ClosingLemmas.{pair_written, raised, closing-further, closing-ends, closing-fails, closed_run, put-finished, next-gone, next-text, next-opener}
-use Rattle.cm_inline.proofs.lemmas.PartLemmas.{ends-none, chain-none}
+use Rattle.cm_inline.proofs.lemmas.PartLemmas.{ends-none, AreSuch, AllOf, such-none, such-append, such-parts}
 use Rattle.cm_inline.proofs.lemmas.SearchLemmas.{FoundBy, find-found}
 use Rattle.cm_inline.proofs.lemmas.StackLemmas.{Found, stacked-found}
 use Rattle.cm_inline.proofs.lemmas.StateLemmas.{MakesPair, steps-fails, leaving-rest, left-in, cut_run, same-list, same-state}
@@ -24,67 +20,32 @@ use Rattle.cm_inline.proofs.lemmas.WaitLemmas.{passed_by}
 
 -- what is left of a run among events is what is left of the run of that number
 abbrev pub AreHeld : List PairedRun → List Event → Type 0
-AreHeld runs [] = Unit {0}
-AreHeld runs (Rest n r ∷ fs) = (r ≡ (get_or runs n no_paired_run).run) × AreHeld runs fs
-AreHeld runs (f ∷ fs) = AreHeld runs fs
-
-held-none : (runs : List PairedRun) (fs : List Event) → HaveNoRun fs → AreHeld runs fs
-held-none runs [] h = tt
-held-none runs (Rest n r ∷ fs) h = absurd h.0
-held-none runs (Text t ∷ fs) h = held-none runs fs h.1
-held-none runs (Whole i ∷ fs) h = held-none runs fs h.1
-held-none runs (Start s ∷ fs) h = held-none runs fs h.1
-held-none runs (End s ∷ fs) h = held-none runs fs h.1
-
-held-append : (runs : List PairedRun) (fs gs : List Event) → AreHeld runs fs → AreHeld runs gs → AreHeld runs (fs ++ gs)
-held-append runs [] gs h g = g
-held-append runs (Rest n r ∷ fs) gs h g = (h.0, held-append runs fs gs h.1 g)
-held-append runs (Text t ∷ fs) gs h g = held-append runs fs gs h g
-held-append runs (Whole i ∷ fs) gs h g = held-append runs fs gs h g
-held-append runs (Start s ∷ fs) gs h g = held-append runs fs gs h g
-held-append runs (End s ∷ fs) gs h g = held-append runs fs gs h g
+AreHeld runs fs = AreSuch (λ n r. r ≡ (get_or runs n no_paired_run).run) fs
 
 held-at : (runs : List PairedRun) (fs gs : List Event) (n : ℕ) (r : Run) → AreHeld runs (fs ++ Rest n r ∷ gs) → r ≡ (get_or runs n no_paired_run).run
 held-at runs [] gs n r h = h.0
 held-at runs (Rest k q ∷ fs) gs n r h = held-at runs fs gs n r h.1
-held-at runs (Text t ∷ fs) gs n r h = held-at runs fs gs n r h
-held-at runs (Whole i ∷ fs) gs n r h = held-at runs fs gs n r h
-held-at runs (Start s ∷ fs) gs n r h = held-at runs fs gs n r h
-held-at runs (End s ∷ fs) gs n r h = held-at runs fs gs n r h
+held-at runs (_ ∷ fs) gs n r h = held-at runs fs gs n r h
 
-held-parts : (runs : List PairedRun) (pairs : List Pair) (ms : List Part) → AreParts runs pairs ms → AreHeld runs (events_of runs pairs ms)
-unfolding events_of
-held-parts runs pairs [] h = tt
-held-parts runs pairs (Numbered k ∷ ms) h =
-    let r = get_or runs k no_paired_run in
-    held-append runs (run_events pairs k r) (events_of runs pairs ms)
-    (held-append runs (ends (drop r.from (take r.to pairs))) (Rest k r.run ∷ _) (held-none runs (ends (drop r.from (take r.to pairs))) (ends-none (drop r.from (take r.to pairs)))) (refl, held-none runs _ (chain-none (reverse pairs) r.opened)))
-    (held-parts runs pairs ms h.3)
-held-parts runs pairs (Known fs ∷ ms) h = held-append runs fs (events_of runs pairs ms) (held-none runs fs h.0) (held-parts runs pairs ms h.1)
+all-held : (runs : List PairedRun) (ms : List Part) → AllOf (λ k. (get_or runs k no_paired_run).run ≡ (get_or runs k no_paired_run).run) ms
+all-held runs [] = tt
+all-held runs (Numbered k ∷ ms) = (refl, all-held runs ms)
+all-held runs (Known fs ∷ ms) = all-held runs ms
 
 pub held-run : (parts : List Part) (first : ℕ) (c : Run) (s : State) (before : List Item) (e : Entry) → PartsHold parts first s before → FoundBy c (get_or s.bottoms (kind c) 0) s.list.entries e → e.run ≡ (get_or s.runs e.place no_paired_run).run
 held-run parts first c s before e w g =
     let fs = so_far parts first s in
     let f : Found c e g.below fs before = stacked-found c g.passed e g.below fs before (subst (λ es. Stacked es fs before) g.whole w.waits.stacked) g.none in
-    let all : AreHeld s.runs fs = held-append s.runs (events_of s.runs s.pairs parts) (ends (drop first s.pairs)) (held-parts s.runs s.pairs parts w.marked) (held-none s.runs (ends (drop first s.pairs)) (ends-none (drop first s.pairs))) in
+    let such = λ (n : ℕ) (r : Run). r ≡ (get_or s.runs n no_paired_run).run in
+    let all : AreHeld s.runs fs = such-append such (events_of s.runs s.pairs parts) (ends (drop first s.pairs)) (such-parts such s.runs s.pairs parts (all-held s.runs parts) w.marked)
+        (such-none such _ (ends-none (drop first s.pairs))) in
     held-at s.runs f.front f.back e.place e.run (subst (AreHeld s.runs) f.events all)
 
 -- so the pair is written as the definition has it
 pub pair-state : (new now : Runs) (bs : List ℕ) (number : ℕ) (c : Run) (e : Entry) (g : FoundBy c (get_or bs (kind c) 0) new.openers.entries e)
     → MakesPair c e g.below (looks_for c (get_or bs (kind c) 0) new.openers.entries) (tag_of c.character (used e.run c)) new now → e.run ≡ (get_or (runs_in new.runs.items) e.place no_paired_run).run
     → state_of now bs number ≡ pair_written c e (looks_for c (get_or bs (kind c) 0) new.openers.entries) g.below (state_of new bs number)
-pair-state new now bs number c e g m is = same-state _ _ runs m.pairs (same-list _ _ (m.entries ∙ leaving-rest (used e.run c) e g.below) m.looks_are refl) refl
-  where
-    n : ℕ
-    n = used e.run c
-
-    old : PairedRun
-    old = get_or (runs_in new.runs.items) e.place no_paired_run
-
-    runs : runs_in now.runs.items ≡ with_opened e.place n (runs_in new.runs.items) (pairs_in new.pairs.items)
-    runs = ap runs_in m.runs ∙ left-in e.place (e.run.left - n) (length new.pairs.items + 1) new.runs.items m.within
-        ∙ ap (λ (r : Run). set (runs_in new.runs.items) e.place (cut_run (r.left - n) (length new.pairs.items + 1) old)) is
-        ∙ ap (λ k. set (runs_in new.runs.items) e.place (cut_run (old.run.left - n) (k + 1) old)) (sym (length-map new.pairs.items pair_in))
+pair-state new now bs number c e g m is = search (rules, same-state, same-list, leaving-rest, left-in, cut_run, length-map)
 
 -- the pair that the code makes of what its search finds
 pub record MadePair (new now : Runs) (bs : List ℕ) (c : Run) (e : Entry) : Type 0 where
@@ -96,28 +57,26 @@ pub made-pair : (new now : Runs) (bs : List ℕ) (k : ℕ) (c : Run) (e : Entry)
     → now.openers.entries ≡ leaving (e.run.left - used e.run c) openers.entries → now.openers.looks ≡ openers.looks
     → pairs_in now.pairs.items ≡ with_pair (tag_of c.character (used e.run c)) e.place (runs_in new.runs.items) (pairs_in new.pairs.items)
     → now.runs.items ≡ with_left e.place (e.run.left - used e.run c) (length new.pairs.items + 1) new.runs.items → now.waiting.items ≡ new.waiting.items → MadePair new now bs c e
-made-pair new now bs k c e openers same within f left looks entries steady pairs runs waiting = record {
-  found = found;
-  makes = record {
-    within = within;
-    entries = entries ∙ ap (leaving (e.run.left - used e.run c)) (left ∙ ap (λ b. from_found c b new.openers.entries) bottom ∙ found.left);
-    looks_are = steady ∙ looks ∙ ap (λ b. new.openers.looks + looks_for c b new.openers.entries) bottom;
-    pairs = pairs;
-    runs = runs;
-    waiting = waiting;
-  };
-}
-  where
-    bottom : get_or bs k 0 ≡ get_or bs (kind c) 0
-    bottom = ap (λ j. get_or bs j 0) same
-
-    found : FoundBy c (get_or bs (kind c) 0) new.openers.entries e
-    found = find-found c (get_or bs (kind c) 0) new.openers.entries e (sym (ap (λ b. find_opener c b new.openers.entries) bottom) ∙ f)
+made-pair new now bs k c e openers same within f left looks entries steady pairs runs waiting =
+    let bottom = ap (λ j. get_or bs j 0) same in
+    let found = find-found c (get_or bs (kind c) 0) new.openers.entries e (sym (ap (λ b. find_opener c b new.openers.entries) bottom) ∙ f) in
+    record {
+      found = found;
+      makes = record {
+        within = within;
+        entries = entries ∙ ap (leaving (e.run.left - used e.run c)) (left ∙ ap (λ b. from_found c b new.openers.entries) bottom ∙ found.left);
+        looks_are = steady ∙ looks ∙ ap (λ b. new.openers.looks + looks_for c b new.openers.entries) bottom;
+        pairs = pairs;
+        runs = runs;
+        waiting = waiting;
+      };
+    }
 
 pub going-pairs : (parts : List Part) (old : State) (run c : Run) (had : List Item) (new now : Runs) (bs : List ℕ) (number left : ℕ) (e : Entry) → c.closes ≡ true → CloserGoesOn parts old run had (state_of new bs number) c
     → (g : FoundBy c (get_or bs (kind c) 0) new.openers.entries e) → MakesPair c e g.below (looks_for c (get_or bs (kind c) 0) new.openers.entries) (tag_of c.character (used e.run c)) new now
     → left + used e.run c ≡ c.left → 1 ≤ left → CloserGoesOn parts old run had (state_of now bs number) (record c { left = left })
 going-pairs parts old run c had new now bs number left e h go g m less some =
+    let rest = ap (λ k. Delimiters (record c { left = k }) ∷ []) (omega (arith, less)) ∙ sym (cond-false (nat_le c.left n) [] (Delimiters (taken n c) ∷ []) (more (nat_le c.left n) refl)) in
     subst (λ s. CloserGoesOn parts old run had s (record c { left = left })) (sym (pair-state new now bs number c e g m (held-run parts (length old.pairs) c (state_of new bs number) go.before e go.closing.holds g)))
     (closing-further parts old run c (record c { left = left }) had (state_of new bs number) e h go g rest refl)
   where
@@ -127,9 +86,6 @@ going-pairs parts old run c had new now bs number left e h go g m less some =
     more : (b : Bool) → nat_le c.left n ≡ b → nat_le c.left n ≡ false
     more true k = let few : c.left ≤ n = leb-true c.left n k in absurd (omega (arith, few, less, some))
     more false k = k
-
-    rest : Delimiters (record c { left = left }) ∷ [] ≡ without n c
-    rest = ap (λ k. Delimiters (record c { left = k }) ∷ []) (omega (arith, less)) ∙ sym (cond-false (nat_le c.left n) [] (Delimiters (taken n c) ∷ []) (more (nat_le c.left n) refl))
 
 pub done-pairs : (parts : List Part) (old : State) (run c : Run) (had : List Item) (new now : Runs) (bs : List ℕ) (number : ℕ) (e : Entry) → c.closes ≡ true → CloserGoesOn parts old run had (state_of new bs number) c
     → (g : FoundBy c (get_or bs (kind c) 0) new.openers.entries e) → MakesPair c e g.below (looks_for c (get_or bs (kind c) 0) new.openers.entries) (tag_of c.character (used e.run c)) new now
@@ -149,10 +105,7 @@ done-fails parts old run c had new bs number openers mark h some go none e k =
 pub done-none : (parts : List Part) (old : State) (run c : Run) (had : List Item) (new : Runs) (bs : List ℕ) (number k : ℕ) (openers : Stack) → k ≡ kind c → IsMarked c → c.closes ≡ true → 1 ≤ c.left → CloserGoesOn parts old run had (state_of new bs number) c
     → find_opener c (get_or bs k 0) new.openers.entries ≡ None → openers.entries ≡ new.openers.entries → openers.looks ≡ new.openers.looks + looks_for c (get_or bs k 0) new.openers.entries
     → CloserDone parts old run had (state_of (record new { openers = openers }) (set bs k number) number) c.left
-done-none parts old run c had new bs number k openers same mark h some go none e looks =
-    let bottom = ap (λ j. get_or bs j 0) same in
-    subst (λ j. CloserDone parts old run had (state_of (record new { openers = openers }) (set bs j number) number) c.left) (sym same)
-    (done-fails parts old run c had new bs number openers mark h some go (sym (ap (λ b. find_opener c b new.openers.entries) bottom) ∙ none) e (looks ∙ ap (λ b. new.openers.looks + looks_for c b new.openers.entries) bottom))
+done-none parts old run c had new bs number k openers same mark h some go none e looks = search (rules, done-fails)
 
 pub steps-search-fails : (old new : Runs) (had bs : List ℕ) (number k : ℕ) (c : Run) (openers : Stack) → k ≡ kind c → RunSteps old new had bs number number 0 → find_opener c (get_or bs k 0) new.openers.entries ≡ None
     → openers.entries ≡ new.openers.entries → openers.looks ≡ new.openers.looks + looks_for c (get_or bs k 0) new.openers.entries
@@ -166,17 +119,13 @@ steps-search-fails old new had bs number k c openers same s none e looks =
 pub put-closed : (parts : List Part) (old : State) (run : Run) (had : List Item) (mid : Runs) (bs : List ℕ) (number left : ℕ) (x : HeldRun) → number < length mid.runs.items → CloserDone parts old run had (state_of mid bs number) left
     → run_of x.run ≡ record run { left = left } → x.opened ≡ 0 → x.from ≡ length old.pairs → x.to ≡ length mid.pairs.items → PartAdded parts old run had (record (state_of mid bs number) { runs = runs_in (set mid.runs.items number x) }) number left
 put-closed parts old run had mid bs number left x within d is none from to =
-    subst (λ rs. PartAdded parts old run had (record (state_of mid bs number) { runs = rs }) number left) (sym runs) (put-finished parts old number left run had s (omega (arith, within, length-map mid.runs.items paired_run)) refl d)
-  where
-    s : State
-    s = state_of mid bs number
-
-    runs : runs_in (set mid.runs.items number x) ≡ set (runs_in mid.runs.items) number (closed_run (record run { left = left }) (length old.pairs) (length (pairs_in mid.pairs.items)))
-    runs = map-set paired_run mid.runs.items number x
+    let s = state_of mid bs number in
+    let runs = map-set paired_run mid.runs.items number x
         ∙ ap (λ (q : Run). set (runs_in mid.runs.items) number (record { run = q; opened = x.opened; from = x.from; to = x.to })) is
         ∙ ap (λ k. set (runs_in mid.runs.items) number (record { run = record run { left = left }; opened = k; from = x.from; to = x.to })) none
         ∙ ap (λ k. set (runs_in mid.runs.items) number (closed_run (record run { left = left }) k x.to)) from
-        ∙ ap (λ k. set (runs_in mid.runs.items) number (closed_run (record run { left = left }) (length old.pairs) k)) (to ∙ sym (length-map mid.pairs.items pair_in))
+        ∙ ap (λ k. set (runs_in mid.runs.items) number (closed_run (record run { left = left }) (length old.pairs) k)) (to ∙ sym (length-map mid.pairs.items pair_in)) in
+    subst (λ rs. PartAdded parts old run had (record (state_of mid bs number) { runs = rs }) number left) (sym runs) (put-finished parts old number left run had s (omega (arith, within, length-map mid.runs.items paired_run)) refl d)
 
 -- the pass goes on behind a run of which nothing is left, or that doesn't open
 pub next-rest : (parts : List Part) (old : State) (run : Run) (had : List Item) (new : Runs) (bs : List ℕ) (number left : ℕ) → (run.opens ≡ false) ⊎ (left ≡ 0) → PartAdded parts old run had (state_of new bs number) number left

@@ -1,19 +1,8 @@
 -- What a `]` asks of the reader, and how deep what it makes nests.
-use Rattle.std.proofs.Common.{◌≡◌, ℕ, ◌+◌, ◌-◌, ◌^◌, ◌<◌, ◌≤◌, Bool, true, false, List, [], ◌∷◌, ◌++◌, length, drop, get_or, reverse, Some, refl, sym, ap, subst, ◌∙◌, arith, length-append, get_or-drop}
-use Rattle.std.proofs.lemmas.Str.{IsCharBoundary-after_ascii}
-use Rattle.std.specs.Prelude.{nat_lt}
-use Rattle.std.proofs.lemmas.List.{reverse-append, length-map, get_or-map}
-use Rattle.std.proofs.Math.Seq.{drop-append_seam}
-use Rattle.std.proofs.lemmas.List.Sums.{sum_by-cons, sum_by-append}
-use Rattle.cm_text.specs.Rules.{Rules}
-use Rattle.cm_tree.specs.Definitions.{Targets}
-use Rattle.cm_scan.specs.inlines.Brackets.{LinkEnd, Bracketed, defined_in, holds_link, made}
-use Rattle.cm_scan.specs.inlines.Inlines.{nests_past}
-use Rattle.cm_scan.specs.inlines.Pairing.{Item, Characters, Finished, Linked, Delimiters, Opener, bracket_text, pair_all}
-use Rattle.cm_inline.specs.declared.brackets.Bracket.{Bracket}
-use Rattle.cm_inline.specs.declared.brackets.Reader.{Reader}
-use Rattle.cm_inline.specs.declared.runs.Run.{Run as HeldRun}
-use Rattle.cm_inline.specs.declared.runs.Runs.{Runs}
+use Rattle.cm_inline.proofs.lemmas.Words.{◌≡◌, ℕ, ◌+◌, ◌-◌, ◌^◌, ◌<◌, ◌≤◌, Bool, true, false, List, [], ◌∷◌, ◌++◌, length, drop, get_or, reverse, Some, refl, sym, ap}
+use Rattle.cm_inline.proofs.lemmas.Words.{◌∙◌, arith, length-append, get_or-drop, IsCharBoundary-after_ascii, nat_lt, reverse-append, length-map, get_or-map}
+use Rattle.cm_inline.proofs.lemmas.Words.{drop-append_seam, sum_by-cons, sum_by-append, Rules, Targets, LinkEnd, Bracketed, defined_in, holds_link, made, nests_past}
+use Rattle.cm_inline.proofs.lemmas.Words.{Item, Delimiters, bracket_text, pair_all, Bracket, Reader, HeldRun, Runs, rules, nat_tests}
 use Rattle.cm_inline.specs.Closers.{all_kinds}
 use Rattle.cm_inline.specs.steps.pairing.Parts.{Pair, PairedRun, no_run as no_paired_run}
 use Rattle.cm_inline.specs.steps.pairing.Passes.{paid_by, AreNumbers, CanPass, WaitFrom}
@@ -24,16 +13,17 @@ use Rattle.cm_inline.specs.steps.Depths.{items_depth}
 use Rattle.cm_inline.specs.steps.Links.{AreBrackets}
 use Rattle.cm_inline.specs.steps.Pairs.{allowed, allowance}
 use Rattle.cm_inline.specs.steps.Reads.{Stands, ahead}
-use Rattle.cm_inline.specs.steps.Runs.{runs_in, pairs_in, paired_run}
+use Rattle.cm_inline.specs.steps.Runs.{runs_in, paired_run}
 use Rattle.cm_inline.proofs.lemmas.BracketLemmas.{closes-opener, link_made, closed_or}
 use Rattle.cm_inline.proofs.lemmas.ClosedLinkLemmas.{before, inside, awaits, again, or-none}
 use Rattle.cm_inline.proofs.lemmas.DeeperLemmas.{made-depth}
 use Rattle.cm_inline.proofs.lemmas.JoinLemmas.{laid-low}
 use Rattle.cm_inline.proofs.lemmas.OpenLemmas.{numbers-append}
-use Rattle.cm_inline.proofs.lemmas.PairDepthLemmas.{both, reverse-depth, settled-items}
+use Rattle.cm_inline.proofs.lemmas.PairDepthLemmas.{reverse-depth, settled-items}
 use Rattle.cm_inline.proofs.lemmas.PaysLemmas.{pays-few}
 use Rattle.cm_inline.proofs.lemmas.RightBracketLemmas.{old-items}
 use Rattle.cm_inline.proofs.lemmas.WholeLemmas.{closed-deeper, nests-ahead}
+use Rattle.cm_inline.proofs.lemmas.InlineDepthLemmas.{both}
 
 -- a `[` before the place behind an opener
 pub left-bracket : (source : List ℕ) (image : Bool) (at behind : ℕ) → IsOpener source image at behind → (0 < behind) × (get_or source (behind - 1) 0 ≡ 91)
@@ -67,11 +57,7 @@ waiting-rise low runs pairs (Made parts item high ∷ ss) h = numbers-from low h
 -- and pay for as many looks as their items
 
 other-pays : (item : Item) → is_run item ≡ false → allowed all_kinds item ≡ 0
-other-pays (Characters text) e = refl
-other-pays (Finished inline) e = refl
-other-pays (Linked inline) e = refl
-other-pays (Delimiters run) e = absurd (cc e)
-other-pays (Opener image source) e = refl
+other-pays item e = grind (arith, nat_tests)
 
 waiting-pay : (low : ℕ) (runs : List HeldRun) (pairs : List Pair) (ss : List Segment) → AreSegments (runs_in runs) pairs low ss → paid_by runs (numbers_in ss) ≡ allowance all_kinds (items_in ss)
 unfolding numbers_in items_in
@@ -83,29 +69,12 @@ waiting-pay low runs pairs (Made parts item high ∷ ss) h = omega (arith, sum_b
 
 -- so that pairs can be made of those behind a front
 pub can-pass : (from : ℕ) (runs : Runs) (front inside : List Segment) → WaitFrom from runs front inside → runs.openers.looks + allowance all_kinds (items_in (front ++ inside)) < 2 ^ 127 → CanPass from runs
-can-pass from runs front inside a few = record {
-  long = omega (arith, ap length a.waiting, length-append (numbers_in front) (numbers_in inside), a.place);
-  numbers = subst (AreNumbers 0 (length runs.runs.items)) (sym whole) (waiting-rise 0 runs.runs.items (pairs_in runs.pairs.items) (front ++ inside) a.segments);
-  few = omega (arith, few, behind, all, waiting-pay 0 runs.runs.items (pairs_in runs.pairs.items) (front ++ inside) a.segments);
-}
-  where
-    whole : runs.waiting.items ≡ numbers_in (front ++ inside)
-    whole = a.waiting ∙ sym (numbers-append front inside)
-
-    pays : ℕ → ℕ
-    pays number = all_kinds + 1 + (run_at runs.runs.items number).run.left
-
-    behind : paid_by runs.runs.items (drop from runs.waiting.items) ≡ paid_by runs.runs.items (numbers_in inside)
-    behind = ap (λ t. paid_by runs.runs.items (drop from t)) a.waiting ∙ ap (λ n. paid_by runs.runs.items (drop n (numbers_in front ++ numbers_in inside))) (sym a.place) ∙ ap (paid_by runs.runs.items) (drop-append_seam (numbers_in front) (numbers_in inside))
-
-    all : paid_by runs.runs.items (numbers_in (front ++ inside)) ≡ paid_by runs.runs.items (numbers_in front) + paid_by runs.runs.items (numbers_in inside)
-    all = ap (paid_by runs.runs.items) (numbers-append front inside) ∙ sum_by-append pays (numbers_in front) (numbers_in inside)
+can-pass from runs front inside a few = search (rules, inside, length-append, waiting-rise, waiting-pay, numbers-append, drop-append_seam, sum_by-append)
 
 -- the last open bracket of a reader, whose brackets are the others
 pub last-read : (source : List ℕ) (targets : Targets) (at : ℕ) (was old : Reader) (others : List Bracket) (b : Bracket) (segments : List Segment) → was.brackets.items ≡ others ++ b ∷ [] → view_of old ≡ view_of was
     → IsRead source targets at (view_of was) (reverse was.brackets.items) segments → IsRead source targets at (view_of old) (b ∷ reverse others) segments
-last-read source targets at was old others b segments had view r =
-    subst (λ t. IsRead source targets at (view_of old) t segments) (ap reverse had ∙ reverse-append others (b ∷ [])) (subst (λ w. IsRead source targets at w (reverse was.brackets.items) segments) (sym view) r)
+last-read source targets at was old others b segments had view r = grind (arith, nat_tests, reverse-append)
 
 pub bracket-passes : (rules : Rules) (source : List ℕ) (targets : Targets) (at : ℕ) (was old : Reader) (others : List Bracket) (b : Bracket) → was.brackets.items ≡ others ++ b ∷ [] → view_of old ≡ view_of was
     → was.runs.openers.looks ≡ old.runs.openers.looks → Reading rules source targets at was → CanPass b.waiting old.runs

@@ -1,11 +1,8 @@
 -- The steps of the loops of the code.
-use Rattle.std.proofs.Common.{◌≡◌, ◌⊎◌, inl, inr, ℕ, suc, ◌+◌, ◌<◌, ◌≤◌, Bool, true, false, cond, ◌==◌, nat_le, List, [], ◌∷◌, ◌++◌, length, take, drop, reverse, get_or, set, Some, None, refl, sym, ap, subst, ◌∙◌, arith, append-nil, append_assoc, length-append}
-use Rattle.std.proofs.lemmas.List.{reverse-append, get_or-set_same, get_or-set_other, length-set}
-use Rattle.std.proofs.lemmas.Bool.{cond-false, ne_eqb, leb-true, le-leb}
-use Rattle.cm_scan.specs.inlines.Delimiters.{Run}
-use Rattle.cm_scan.specs.inlines.Pairing.{Item, Finished, Delimiters, Opened, nearest_opener, used, without, emphasised, settled}
-use Rattle.cm_scan.specs.inlines.OnePass.{up_to_pair, passed}
-use Rattle.cm_scan.proofs.lemmas.inlines.PairingLemmas.{opened_at}
+use Rattle.cm_inline.proofs.lemmas.Words.{◌≡◌, inr, ℕ, suc, ◌+◌, ◌<◌, ◌≤◌, Bool, true, false, cond, ◌==◌, nat_le, List, [], ◌∷◌, ◌++◌, length, drop, reverse, get_or}
+use Rattle.cm_inline.proofs.lemmas.Words.{set, Some, None, refl, sym, ap, subst, ◌∙◌, arith, append-nil, append_assoc, length-append, reverse-append, get_or-set_same}
+use Rattle.cm_inline.proofs.lemmas.Words.{get_or-set_other, length-set, take_all, cond-false, ne_eqb, leb-true, le-leb, Run, Item, Delimiters, Opened, nearest_opener}
+use Rattle.cm_inline.proofs.lemmas.Words.{used, without, up_to_pair, passed, opened_at, rules, nat_tests, Finished, emphasised, settled}
 use Rattle.cm_inline.specs.steps.Entries.{Entry, Listed}
 use Rattle.cm_inline.specs.steps.Openers.{spent}
 use Rattle.cm_inline.specs.steps.Pairs.{items_emphases}
@@ -17,84 +14,51 @@ use Rattle.cm_inline.proofs.lemmas.PairDepthLemmas.{reverse-depth, settled-items
 use Rattle.cm_inline.proofs.lemmas.EmphasisLemmas.{pair-holds, reversed-hold}
 use Rattle.cm_inline.proofs.lemmas.CloserLemmas.{pass-other, pass-further, pass-ends, pass-stays}
 use Rattle.cm_inline.proofs.lemmas.SearchLemmas.{FoundBy}
-use Rattle.cm_inline.specs.steps.pairing.ClosingRuns.{AreUnder, State, so_far, PartsHold, Closing, last_depth, CloserGoesOn, CloserDone, PartAdded, PassGoesOn}
-use Rattle.cm_inline.specs.steps.pairing.Events.{Event, Text, Rest, Whole, Tag, Start, End, tag_of}
-use Rattle.cm_inline.specs.steps.pairing.Parts.{Pair, PairedRun, Part, Numbered, Known, chain, ends, no_run, run_events, part_events, events_of, with_pair, with_opened, opened_event, open_at, Rising, HaveNoRun, AreParts}
+use Rattle.cm_inline.specs.steps.pairing.ClosingRuns.{AreUnder, State, so_far, PartsHold, last_depth, CloserGoesOn, CloserDone, PartAdded, PassGoesOn}
+use Rattle.cm_inline.specs.steps.pairing.Events.{Event, Rest, Tag, Start, tag_of}
+use Rattle.cm_inline.specs.steps.pairing.Parts.{Pair, PairedRun, Part, Numbered, Known, chain, ends, no_run, events_of, with_pair, with_opened, opened_event, open_at, Rising, HaveNoRun, AreParts}
 use Rattle.cm_inline.specs.steps.pairing.Readings.{starts_in}
-use Rattle.cm_inline.specs.steps.pairing.Stacks.{taken}
 use Rattle.cm_inline.specs.steps.pairing.WaitingOpeners.{WaitAsOpeners}
-use Rattle.cm_inline.proofs.lemmas.PartLemmas.{ends-none, chain-none, pair-written, open-starts, pair-events-written}
+use Rattle.cm_inline.proofs.lemmas.PartLemmas.{ends-none, pair-written, open-starts, pair-events-written, AreSuch, such-none, such-append, such-parts, under-all}
 use Rattle.cm_inline.proofs.lemmas.ReadingLemmas.{starts-append}
-use Rattle.cm_inline.proofs.lemmas.StackLemmas.{pair_events}
-use Rattle.cm_inline.proofs.lemmas.WaitLemmas.{Pairs, after_pair, waits-pairs, Fails, with_looks, waits-fails, passed_by, waits-opener, waits-text, waits-gone}
+use Rattle.cm_inline.proofs.lemmas.WaitLemmas.{after_pair, waits-pairs, with_looks, waits-fails, passed_by, waits-opener, waits-text, waits-gone}
+use Rattle.cm_inline.proofs.lemmas.LaidLemmas.{events-append}
+use Rattle.cm_inline.specs.steps.pairing.Stacks.{taken}
 
 -- the numbers stay
 rising-put : (low number count n : ℕ) (tag : Tag) (r : Run) (fs : List Event) → low ≤ n → Rising (suc n) fs → Rising low (opened_event number count tag (Rest n r) ++ fs)
-rising-put low number count n tag r fs h g = go (n == number)
-  where
-    go : (b : Bool) → Rising low (cond b (Rest n (taken count r) ∷ Start tag ∷ []) (Rest n r ∷ []) ++ fs)
-    go true = (h, g)
-    go false = (h, g)
+rising-put low number count n tag r fs h g =
+    elim (n == number) as (λ b. Rising low (cond b (Rest n (taken count r) ∷ Start tag ∷ []) (Rest n r ∷ []) ++ fs)) [ true ↦ (h, g) | false ↦ (h, g) ]
 
 pub rising-open : (low number count : ℕ) (tag : Tag) (fs : List Event) → Rising low fs → Rising low (open_at number count tag fs)
 unfolding open_at
 rising-open low number count tag [] h = tt
 rising-open low number count tag (Rest n r ∷ fs) h = rising-put low number count n tag r (open_at number count tag fs) h.0 (rising-open (suc n) number count tag fs h.1)
-rising-open low number count tag (Text t ∷ fs) h = rising-open low number count tag fs h
-rising-open low number count tag (Whole i ∷ fs) h = rising-open low number count tag fs h
-rising-open low number count tag (Start s ∷ fs) h = rising-open low number count tag fs h
-rising-open low number count tag (End s ∷ fs) h = rising-open low number count tag fs h
+rising-open low number count tag (_ ∷ fs) h = rising-open low number count tag fs h
 
 rising-none : (low : ℕ) (fs : List Event) → HaveNoRun fs → Rising low fs
 rising-none low [] h = tt
 rising-none low (Rest n r ∷ fs) h = absurd h.0
-rising-none low (Text t ∷ fs) h = rising-none low fs h.1
-rising-none low (Whole i ∷ fs) h = rising-none low fs h.1
-rising-none low (Start s ∷ fs) h = rising-none low fs h.1
-rising-none low (End s ∷ fs) h = rising-none low fs h.1
+rising-none low (_ ∷ fs) h = rising-none low fs h.1
 
 rising-more : (low : ℕ) (fs gs : List Event) → Rising low fs → HaveNoRun gs → Rising low (fs ++ gs)
 rising-more low [] gs h g = rising-none low gs g
 rising-more low (Rest n r ∷ fs) gs h g = (h.0, rising-more (suc n) fs gs h.1 g)
-rising-more low (Text t ∷ fs) gs h g = rising-more low fs gs h g
-rising-more low (Whole i ∷ fs) gs h g = rising-more low fs gs h g
-rising-more low (Start s ∷ fs) gs h g = rising-more low fs gs h g
-rising-more low (End s ∷ fs) gs h g = rising-more low fs gs h g
+rising-more low (_ ∷ fs) gs h g = rising-more low fs gs h g
 
 pub rising-front : (low : ℕ) (fs gs : List Event) → Rising low (fs ++ gs) → Rising low fs
 rising-front low [] gs h = tt
 rising-front low (Rest n r ∷ fs) gs h = (h.0, rising-front (suc n) fs gs h.1)
-rising-front low (Text t ∷ fs) gs h = rising-front low fs gs h
-rising-front low (Whole i ∷ fs) gs h = rising-front low fs gs h
-rising-front low (Start s ∷ fs) gs h = rising-front low fs gs h
-rising-front low (End s ∷ fs) gs h = rising-front low fs gs h
+rising-front low (_ ∷ fs) gs h = rising-front low fs gs h
 
 -- parts stay well made
 run-kept : (number count n : ℕ) (tag : Tag) (runs : List PairedRun) (pairs : List Pair) → n < length runs → (get_or runs n no_run).opened ≤ length pairs → (get_or runs n no_run).to ≤ length pairs
     → ((get_or (with_opened number count runs pairs) n no_run).opened ≤ length (with_pair tag number runs pairs)) × ((get_or (with_opened number count runs pairs) n no_run).to ≤ length (with_pair tag number runs pairs))
-run-kept number count n tag runs pairs within opened to = go (nat_split n number)
-  where
-    old : PairedRun
-    old = get_or runs number no_run
-
-    now : PairedRun
-    now = record { run = taken count old.run; opened = length pairs + 1; from = old.from; to = old.to }
-
-    long : length (with_pair tag number runs pairs) ≡ length pairs + 1
-    long = length-append pairs (record { tag = tag; before = old.opened } ∷ [])
-
-    go : (n ≡ number) ⊎ (n ≡ number → ⊥) → ((get_or (set runs number now) n no_run).opened ≤ length (with_pair tag number runs pairs)) × ((get_or (set runs number now) n no_run).to ≤ length (with_pair tag number runs pairs))
-    go (inr q) = let is = get_or-set_other runs number n now no_run q in (omega (arith, ap (λ (p : PairedRun). p.opened) is, opened, long), omega (arith, ap (λ (p : PairedRun). p.to) is, to, long))
-    go (inl q) =
-        let is = ap (λ k. get_or (set runs number now) k no_run) q ∙ get_or-set_same runs number now no_run (omega (arith, within, q)) in
-        (omega (arith, ap (λ (p : PairedRun). p.opened) is, long), omega (arith, ap (λ (p : PairedRun). p.to) is, ap (λ k. (get_or runs k no_run).to) q, to, long))
+run-kept number count n tag runs pairs within opened to = search (rules, nat_split, length-append, get_or-set_other, get_or-set_same)
 
 pub parts-kept : (number count : ℕ) (tag : Tag) (runs : List PairedRun) (pairs : List Pair) (parts : List Part) → AreParts runs pairs parts → AreParts (with_opened number count runs pairs) (with_pair tag number runs pairs) parts
 parts-kept number count tag runs pairs [] h = tt
-parts-kept number count tag runs pairs (Numbered n ∷ ms) h =
-    let kept = run-kept number count n tag runs pairs h.0 h.1 h.2 in
-    let old = get_or runs number no_run in
-    (omega (arith, h.0, length-set runs number (record { run = taken count old.run; opened = length pairs + 1; from = old.from; to = old.to })), kept.0, kept.1, parts-kept number count tag runs pairs ms h.3)
+parts-kept number count tag runs pairs (Numbered n ∷ ms) h = search (rules, run-kept, length-set, (parts-kept number count tag runs pairs ms h.3))
 parts-kept number count tag runs pairs (Known fs ∷ ms) h = (h.0, parts-kept number count tag runs pairs ms h.1)
 
 -- the code's writes for a pair
@@ -122,48 +86,15 @@ last-inside before (item ∷ inside) low r e = omega (arith, ap last_depth e)
 
 pub holds-pairs : (parts : List Part) (first : ℕ) (c : Run) (s : State) (before : List Item) (e : Entry) → PartsHold parts first s before → (g : FoundBy c (get_or s.bottoms (kind c) 0) s.list.entries e)
     → Pairing parts first c s (pair_written c e (looks_for c (get_or s.bottoms (kind c) 0) s.list.entries) g.below s) before e
-holds-pairs parts first c s before e w g = record {
-  low = p.found.low;
-  inside = reverse p.found.inside;
-  nearest = p.nearest;
-  holds = record {
-    waits = subst (λ fs. WaitAsOpeners fs (reverse (up_to_pair (opened_at e.run p.found.low (reverse p.found.inside)) c)) new.list s.bottoms) (sym written) p.waits;
-    marked = parts-kept e.place count tag s.runs s.pairs parts w.marked;
-    under = w.under;
-    rising = rising-more 0 (events_of new.runs new.pairs parts) (ends (drop first new.pairs)) (subst (Rising 0) (sym opened) (rising-open 0 e.place count tag (events_of s.runs s.pairs parts) rising)) (ends-none (drop first new.pairs));
-    early = omega (arith, w.early, length-append s.pairs (record { tag = tag; before = (get_or s.runs e.place no_run).opened } ∷ []));
-  };
-  paid = p.paid;
-  made = p.made;
-  nested = omega (arith, last-inside before p.found.inside p.found.low e.run p.found.whole, reverse-depth p.found.inside);
-  starts = omega (arith, ap starts_in opened, open-starts 0 e.place count tag (events_of s.runs s.pairs parts) rising, length-append s.pairs (record { tag = tag; before = (get_or s.runs e.place no_run).opened } ∷ []));
-}
-  where
-    count : ℕ
-    count = used e.run c
-
-    tag : Tag
-    tag = tag_of c.character count
-
-    p : Pairs (so_far parts first s) before c e s.list (after_pair c e (looks_for c (get_or s.bottoms (kind c) 0) s.list.entries) g.below s.list) s.bottoms
-    p = waits-pairs (so_far parts first s) before c e s.list s.bottoms w.waits g
-
-    new : State
-    new = pair_written c e (looks_for c (get_or s.bottoms (kind c) 0) s.list.entries) g.below s
-
-    written : so_far parts first new ≡ pair_events c e p.below (so_far parts first s) before p.found
-    written = pair-events-written c e p.below before s.runs s.pairs parts first w.marked w.early p.found w.rising
-
-    opened : events_of new.runs new.pairs parts ≡ open_at e.place count tag (events_of s.runs s.pairs parts)
-    opened = pair-written e.place count tag s.runs s.pairs parts w.marked
-
-    rising : Rising 0 (events_of s.runs s.pairs parts)
-    rising = rising-front 0 (events_of s.runs s.pairs parts) (ends (drop first s.pairs)) w.rising
-
--- the loop of a closer: it begins with no pair
-pub closing-begins : (parts : List Part) (s : State) (run : Run) (before : List Item) → PartsHold parts (length s.pairs) s before → CloserGoesOn parts s run before s run
-closing-begins parts s run before w =
-    record { before = before; closing = record { holds = w; same = refl; goes = refl; paid = λ kinds known. omega arith; made = omega arith; next = refl; long = refl; starts = omega arith }; nested = omega arith }
+holds-pairs parts first c s before e w g =
+    let count = used e.run c in
+    let tag = tag_of c.character count in
+    let p = waits-pairs (so_far parts first s) before c e s.list s.bottoms w.waits g in
+    let new = pair_written c e (looks_for c (get_or s.bottoms (kind c) 0) s.list.entries) g.below s in
+    let opened = pair-written e.place count tag s.runs s.pairs parts w.marked in
+    let rising = rising-front 0 (events_of s.runs s.pairs parts) (ends (drop first s.pairs)) w.rising in
+    let written = pair-events-written c e p.below before s.runs s.pairs parts first w.marked w.early p.found w.rising in
+    grind (arith, nat_tests, opened_at, parts-kept, rising-more, rising-open, ends-none, length-append, last-inside, reverse-depth, open-starts)
 
 pub same-kind : (left : ℕ) (run c : Run) → record run { left = left } ≡ c → kind run ≡ kind c
 unfolding kind
@@ -177,35 +108,28 @@ last-made found c =
 -- a pair that leaves something of the closer
 pub closing-further : (parts : List Part) (old : State) (run c rest : Run) (had : List Item) (s : State) (e : Entry) → c.closes ≡ true → CloserGoesOn parts old run had s c → (g : FoundBy c (get_or s.bottoms (kind c) 0) s.list.entries e)
     → Delimiters rest ∷ [] ≡ without (used e.run c) c → record c { left = rest.left } ≡ rest → CloserGoesOn parts old run had (pair_written c e (looks_for c (get_or s.bottoms (kind c) 0) s.list.entries) g.below s) rest
-closing-further parts old run c rest had s e h go g left is = record {
-  before = now;
-  closing = record {
-    holds = p.holds;
-    same = ap with_left w.same ∙ is;
-    goes = sym (pass-further go.before c rest found h p.nearest left) ∙ w.goes;
-    paid = λ kinds known. omega (arith, p.paid kinds, w.paid kinds known);
-    made = omega (arith, w.made, p.made, pair-holds go.before c found p.nearest, reversed-hold (up_to_pair found c));
-    next = w.next;
-    long = length-set s.runs e.place _ ∙ w.long;
-    starts = omega (arith, w.starts, p.starts);
-  };
-  nested = omega (arith, go.nested, p.nested, last-made found c, length-append s.pairs (record { tag = tag_of c.character (used e.run c); before = (get_or s.runs e.place no_run).opened } ∷ []));
-}
+closing-further parts old run c rest had s e h go g left is =
+    let w = go.closing in
+    let p = holds-pairs parts (length old.pairs) c s go.before e w.holds g in
+    let found = opened_at e.run p.low p.inside in
+    let now = reverse (up_to_pair found c) in
+    record {
+      before = now;
+      closing = record {
+        holds = p.holds;
+        same = ap with_left w.same ∙ is;
+        goes = sym (pass-further go.before c rest found h p.nearest left) ∙ w.goes;
+        paid = λ kinds known. omega (arith, p.paid kinds, w.paid kinds known);
+        made = omega (arith, w.made, p.made, pair-holds go.before c found p.nearest, reversed-hold (up_to_pair found c));
+        next = w.next;
+        long = length-set s.runs e.place _ ∙ w.long;
+        starts = omega (arith, w.starts, p.starts);
+      };
+      nested = omega (arith, go.nested, p.nested, last-made found c, length-append s.pairs (record { tag = tag_of c.character (used e.run c); before = (get_or s.runs e.place no_run).opened } ∷ []));
+    }
   where
-    w : Closing parts old run had s c go.before
-    w = go.closing
-
-    p : Pairing parts (length old.pairs) c s (pair_written c e (looks_for c (get_or s.bottoms (kind c) 0) s.list.entries) g.below s) go.before e
-    p = holds-pairs parts (length old.pairs) c s go.before e w.holds g
-
     with_left : Run → Run
     with_left r = record r { left = rest.left }
-
-    found : Opened
-    found = opened_at e.run p.low p.inside
-
-    now : List Item
-    now = reverse (up_to_pair found c)
 
 -- so many pairs of one closer nest so deep
 pub closing-deep : (parts : List Part) (old : State) (run c : Run) (had : List Item) (s : State) (e : Entry) → c.closes ≡ true → CloserGoesOn parts old run had s c → FoundBy c (get_or s.bottoms (kind c) 0) s.list.entries e
@@ -217,32 +141,16 @@ closing-deep parts old run c had s e h go g =
 -- a pair that leaves nothing of it
 pub closing-ends : (parts : List Part) (old : State) (run c : Run) (had : List Item) (s : State) (e : Entry) → c.closes ≡ true → CloserGoesOn parts old run had s c → (g : FoundBy c (get_or s.bottoms (kind c) 0) s.list.entries e) → [] ≡ without (used e.run c) c
     → CloserDone parts old run had (pair_written c e (looks_for c (get_or s.bottoms (kind c) 0) s.list.entries) g.below s) 0
-closing-ends parts old run c had s e h go g left = record {
-  before = reverse (up_to_pair found c);
-  rest = [];
-  holds = p.holds;
-  goes = sym (pass-ends go.before c found h p.nearest left) ∙ w.goes;
-  rest_is = refl;
-  paid = λ kinds known. omega (arith, p.paid kinds, w.paid kinds known);
-  made = omega (arith, w.made, p.made, pair-holds go.before c found p.nearest, reversed-hold (up_to_pair found c));
-  starts = omega (arith, w.starts, p.starts);
-}
-  where
-    w : Closing parts old run had s c go.before
-    w = go.closing
-
-    p : Pairing parts (length old.pairs) c s (pair_written c e (looks_for c (get_or s.bottoms (kind c) 0) s.list.entries) g.below s) go.before e
-    p = holds-pairs parts (length old.pairs) c s go.before e w.holds g
-
-    found : Opened
-    found = opened_at e.run p.low p.inside
+closing-ends parts old run c had s e h go g left =
+    let w = go.closing in
+    let p = holds-pairs parts (length old.pairs) c s go.before e w.holds g in
+    let found = opened_at e.run p.low p.inside in
+    search (rules, (reverse (up_to_pair found c)), (sym (pass-ends go.before c found h p.nearest left) ∙ w.goes), pair-holds go.before c found p.nearest,
+        reversed-hold (up_to_pair found c))
 
 not-none : (n : ℕ) → 1 ≤ n → nat_le n 0 ≡ false
-not-none n p = go (nat_le n 0) refl
-  where
-    go : (b : Bool) → nat_le n 0 ≡ b → nat_le n 0 ≡ false
-    go true h = let few : n ≤ 0 = leb-true n 0 h in absurd (omega (arith, few, p))
-    go false h = h
+not-none n p =
+    (elim (nat_le n 0) as (λ b. nat_le n 0 ≡ b → nat_le n 0 ≡ false) [ true ↦ λ h. let few : n ≤ 0 = leb-true n 0 h in absurd (omega (arith, few, p)) | false ↦ λ h. h ]) refl
 
 -- no opener is left: its bottom is raised
 abbrev pub raised : Run → State → State
@@ -250,22 +158,19 @@ raised c s = record { runs = s.runs; pairs = s.pairs; list = with_looks s.list (
 
 pub closing-fails : (parts : List Part) (old : State) (run c : Run) (had : List Item) (s : State) → IsMarked c → c.closes ≡ true → 1 ≤ c.left → CloserGoesOn parts old run had s c
     → find_opener c (get_or s.bottoms (kind c) 0) s.list.entries ≡ None → CloserDone parts old run had (raised c s) c.left
-closing-fails parts old run c had s m h some go none = record {
-  before = go.before;
-  rest = Delimiters c ∷ [];
-  holds = record { waits = f.waits; marked = w.holds.marked; under = w.holds.under; rising = w.holds.rising; early = w.holds.early };
-  goes = sym (pass-stays go.before c (inr f.nearest)) ∙ w.goes;
-  rest_is = ap (λ r. Delimiters r ∷ []) (sym w.same) ∙ sym (cond-false (nat_le c.left 0) [] (Delimiters (record run { left = c.left }) ∷ []) (not-none c.left some));
-  paid = λ kinds known. omega (arith, f.paid kinds (omega (arith, known, same-kind c.left run c w.same)), w.paid kinds known);
-  made = omega (arith, w.made);
-  starts = w.starts;
-}
-  where
-    w : Closing parts old run had s c go.before
-    w = go.closing
-
-    f : Fails (so_far parts (length old.pairs) s) go.before c s.list (with_looks s.list (looks_for c (get_or s.bottoms (kind c) 0) s.list.entries)) s.bottoms
-    f = waits-fails (so_far parts (length old.pairs) s) go.before c s.list s.bottoms w.holds.waits m h none
+closing-fails parts old run c had s m h some go none =
+    let w = go.closing in
+    let f = waits-fails (so_far parts (length old.pairs) s) go.before c s.list s.bottoms w.holds.waits m h none in
+    record {
+      before = go.before;
+      rest = Delimiters c ∷ [];
+      holds = record { waits = f.waits; marked = w.holds.marked; under = w.holds.under; rising = w.holds.rising; early = w.holds.early };
+      goes = sym (pass-stays go.before c (inr f.nearest)) ∙ w.goes;
+      rest_is = ap (λ r. Delimiters r ∷ []) (sym w.same) ∙ sym (cond-false (nat_le c.left 0) [] (Delimiters (record run { left = c.left }) ∷ []) (not-none c.left some));
+      paid = λ kinds known. omega (arith, f.paid kinds (omega (arith, known, same-kind c.left run c w.same)), w.paid kinds known);
+      made = omega (arith, w.made);
+      starts = w.starts;
+    }
 
 pub drop-all : (ps : List Pair) → drop (length ps) ps ≡ []
 drop-all [] = refl
@@ -282,23 +187,15 @@ so-far-starts parts first s = omega (arith, starts-append (events_of s.runs s.pa
 
 -- The closer's part is put behind.
 
-pub events-append : (runs : List PairedRun) (pairs : List Pair) (ms ns : List Part) → events_of runs pairs (ms ++ ns) ≡ events_of runs pairs ms ++ events_of runs pairs ns
-unfolding events_of
-events-append runs pairs [] ns = refl
-events-append runs pairs (m ∷ ms) ns = ap (λ t. part_events runs pairs m ++ t) (events-append runs pairs ms ns) ∙ sym (append_assoc (part_events runs pairs m) (events_of runs pairs ms) (events_of runs pairs ns))
-
 pub events-elsewhere : (n : ℕ) (now : PairedRun) (runs : List PairedRun) (pairs : List Pair) (ms : List Part) → AreUnder n ms → events_of (set runs n now) pairs ms ≡ events_of runs pairs ms
 unfolding events_of
 events-elsewhere n now runs pairs [] h = refl
-events-elsewhere n now runs pairs (Numbered k ∷ ms) h =
-    ap (λ r. run_events pairs k r ++ events_of (set runs n now) pairs ms) (get_or-set_other runs n k now no_run (λ e. absurd (omega (arith, e, h.0)))) ∙ ap (λ t. run_events pairs k (get_or runs k no_run) ++ t) (events-elsewhere n now runs pairs ms h.1)
+events-elsewhere n now runs pairs (Numbered k ∷ ms) h = search (rules, get_or-set_other, (events-elsewhere n now runs pairs ms h.1))
 events-elsewhere n now runs pairs (Known fs ∷ ms) h = ap (λ t. fs ++ t) (events-elsewhere n now runs pairs ms h)
 
 pub parts-elsewhere : (n : ℕ) (now : PairedRun) (runs : List PairedRun) (pairs : List Pair) (ms : List Part) → AreUnder n ms → AreParts runs pairs ms → AreParts (set runs n now) pairs ms
 parts-elsewhere n now runs pairs [] u h = tt
-parts-elsewhere n now runs pairs (Numbered k ∷ ms) u h =
-    let same = get_or-set_other runs n k now no_run (λ e. absurd (omega (arith, e, u.0))) in
-    (omega (arith, h.0, length-set runs n now), omega (arith, h.1, ap (λ (p : PairedRun). p.opened) same), omega (arith, h.2, ap (λ (p : PairedRun). p.to) same), parts-elsewhere n now runs pairs ms u.1 h.3)
+parts-elsewhere n now runs pairs (Numbered k ∷ ms) u h = search (rules, get_or-set_other, length-set, (parts-elsewhere n now runs pairs ms u.1 h.3))
 parts-elsewhere n now runs pairs (Known fs ∷ ms) u h = (h.0, parts-elsewhere n now runs pairs ms u h.1)
 
 pub parts-append : (runs : List PairedRun) (pairs : List Pair) (ms ns : List Part) → AreParts runs pairs ms → AreParts runs pairs ns → AreParts runs pairs (ms ++ ns)
@@ -327,149 +224,68 @@ so-far-finished : (parts : List Part) (number first left : ℕ) (run : Run) (lis
     → so_far (parts ++ Numbered number ∷ []) (length s.pairs) (finished number first left run list s) ≡ so_far parts first s ++ Rest number (record run { left = left }) ∷ []
 unfolding events_of
 so-far-finished parts number first left run list s within under =
-    ap (λ t. events_of runs s.pairs (parts ++ Numbered number ∷ []) ++ ends t) (drop-length s.pairs)
-    ∙ append-nil (events_of runs s.pairs (parts ++ Numbered number ∷ []))
-    ∙ events-append runs s.pairs parts (Numbered number ∷ [])
-    ∙ ap (λ t. t ++ events_of runs s.pairs (Numbered number ∷ [])) (events-elsewhere number now s.runs s.pairs parts under)
-    ∙ ap (λ t. events_of s.runs s.pairs parts ++ t)
-    (append-nil (run_events s.pairs number (get_or runs number no_run)) ∙ ap (run_events s.pairs number) (get_or-set_same s.runs number now no_run within)
-    ∙ ap (λ t. ends (drop first t) ++ Rest number now.run ∷ chain (reverse s.pairs) 0) (take-length s.pairs) ∙ ap (λ t. ends (drop first s.pairs) ++ Rest number now.run ∷ t) (chain-zero (reverse s.pairs)))
-    ∙ sym (append_assoc (events_of s.runs s.pairs parts) (ends (drop first s.pairs)) (Rest number now.run ∷ []))
-  where
-    now : PairedRun
-    now = closed_run (record run { left = left }) first (length s.pairs)
-
-    runs : List PairedRun
-    runs = set s.runs number now
-
-    drop-length : (ps : List Pair) → drop (length ps) ps ≡ []
-    drop-length [] = refl
-    drop-length (p ∷ ps) = drop-length ps
-
-    take-length : (ps : List Pair) → take (length ps) ps ≡ ps
-    take-length [] = refl
-    take-length (p ∷ ps) = ap (λ t. p ∷ t) (take-length ps)
+    let now = closed_run (record run { left = left }) first (length s.pairs) in
+    let runs = set s.runs number now in
+    search (rules, drop-all, append-nil, events-append, events-elsewhere, get_or-set_same, take_all, chain-zero, append_assoc)
 
 -- the numbers among events are below this one
 abbrev pub AreLow : ℕ → List Event → Type 0
-AreLow n [] = Unit {0}
-AreLow n (Rest k r ∷ fs) = (k < n) × AreLow n fs
-AreLow n (f ∷ fs) = AreLow n fs
+AreLow n fs = AreSuch (λ k r. k < n) fs
 
 rising-behind : (low n : ℕ) (r : Run) (fs : List Event) → Rising low fs → low ≤ n → AreLow n fs → Rising low (fs ++ Rest n r ∷ [])
 rising-behind low n r [] h p a = (p, tt)
 rising-behind low n r (Rest k q ∷ fs) h p a = (h.0, rising-behind (suc k) n r fs h.1 (omega (arith, a.0)) a.1)
-rising-behind low n r (Text t ∷ fs) h p a = rising-behind low n r fs h p a
-rising-behind low n r (Whole t ∷ fs) h p a = rising-behind low n r fs h p a
-rising-behind low n r (Start t ∷ fs) h p a = rising-behind low n r fs h p a
-rising-behind low n r (End t ∷ fs) h p a = rising-behind low n r fs h p a
-
-pub low-none : (n : ℕ) (fs : List Event) → HaveNoRun fs → AreLow n fs
-low-none n [] h = tt
-low-none n (Rest k r ∷ fs) h = absurd h.0
-low-none n (Text t ∷ fs) h = low-none n fs h.1
-low-none n (Whole t ∷ fs) h = low-none n fs h.1
-low-none n (Start t ∷ fs) h = low-none n fs h.1
-low-none n (End t ∷ fs) h = low-none n fs h.1
-
-pub low-append : (n : ℕ) (fs gs : List Event) → AreLow n fs → AreLow n gs → AreLow n (fs ++ gs)
-low-append n [] gs h g = g
-low-append n (Rest k r ∷ fs) gs h g = (h.0, low-append n fs gs h.1 g)
-low-append n (Text t ∷ fs) gs h g = low-append n fs gs h g
-low-append n (Whole t ∷ fs) gs h g = low-append n fs gs h g
-low-append n (Start t ∷ fs) gs h g = low-append n fs gs h g
-low-append n (End t ∷ fs) gs h g = low-append n fs gs h g
+rising-behind low n r (_ ∷ fs) h p a = rising-behind low n r fs h p a
 
 pub low-parts : (n : ℕ) (runs : List PairedRun) (pairs : List Pair) (ms : List Part) → AreUnder n ms → AreParts runs pairs ms → AreLow n (events_of runs pairs ms)
-unfolding events_of
-low-parts n runs pairs [] u h = tt
-low-parts n runs pairs (Numbered k ∷ ms) u h =
-    let r = get_or runs k no_run in
-    low-append n (run_events pairs k r) (events_of runs pairs ms)
-    (low-append n (ends (drop r.from (take r.to pairs))) (Rest k r.run ∷ chain (reverse pairs) r.opened) (low-none n (ends (drop r.from (take r.to pairs))) (ends-none (drop r.from (take r.to pairs))))
-    (u.0, low-none n (chain (reverse pairs) r.opened) (chain-none (reverse pairs) r.opened)))
-    (low-parts n runs pairs ms u.1 h.3)
-low-parts n runs pairs (Known fs ∷ ms) u h = low-append n fs (events_of runs pairs ms) (low-none n fs h.0) (low-parts n runs pairs ms u h.1)
+low-parts n runs pairs ms u h = such-parts (λ k r. k < n) runs pairs ms (under-all n n ms (omega arith) u) h
+
+low-so-far : (n first : ℕ) (s : State) (parts : List Part) → AreUnder n parts → AreParts s.runs s.pairs parts → AreLow n (so_far parts first s)
+low-so-far n first s parts u h =
+    such-append (λ k r. k < n) (events_of s.runs s.pairs parts) (ends (drop first s.pairs)) (low-parts n s.runs s.pairs parts u h) (such-none (λ k r. k < n) _ (ends-none (drop first s.pairs)))
 
 -- So its part is put behind.
 pub put-finished : (parts : List Part) (old : State) (number left : ℕ) (run : Run) (had : List Item) (s : State) → number < length s.runs → number ≡ s.list.next → CloserDone parts old run had s left
     → PartAdded parts old run had (finished number (length old.pairs) left run s.list s) number left
-put-finished parts old number left run had s within at d = record {
-  events = so_far parts first s;
-  before = d.before;
-  rest = d.rest;
-  waits = w.waits;
-  whole = so-far-finished parts number first left run s.list s within under;
-  marked = parts-append (set s.runs number now) s.pairs parts (Numbered number ∷ []) (parts-elsewhere number now s.runs s.pairs parts under w.marked)
-      (omega (arith, within, length-set s.runs number now), omega (arith, ap (λ (p : PairedRun). p.opened) is), omega (arith, ap (λ (p : PairedRun). p.to) is), tt);
-  under = under;
-  rising = rising-behind 0 number (record run { left = left }) (so_far parts first s) w.rising (omega arith)
-      (low-append number (events_of s.runs s.pairs parts) (ends (drop first s.pairs)) (low-parts number s.runs s.pairs parts under w.marked) (low-none number (ends (drop first s.pairs)) (ends-none (drop first s.pairs))));
-  goes = d.goes;
-  rest_is = d.rest_is;
-  paid = d.paid;
-  made = d.made;
-  starts = omega (arith, d.starts, so-far-starts parts first s);
-}
-  where
-    first : ℕ
-    first = length old.pairs
-
-    w : PartsHold parts first s d.before
-    w = d.holds
-
-    now : PairedRun
-    now = closed_run (record run { left = left }) first (length s.pairs)
-
-    is : get_or (set s.runs number now) number no_run ≡ now
-    is = get_or-set_same s.runs number now no_run within
-
-    under : AreUnder number parts
-    under = subst (λ n. AreUnder n parts) (sym at) w.under
+put-finished parts old number left run had s within at d =
+    let first = length old.pairs in
+    let w = d.holds in
+    let now = closed_run (record run { left = left }) first (length s.pairs) in
+    let is = get_or-set_same s.runs number now no_run within in
+    let under = subst (λ n. AreUnder n parts) (sym at) w.under in
+    record {
+      events = so_far parts first s;
+      before = d.before;
+      rest = d.rest;
+      waits = w.waits;
+      whole = so-far-finished parts number first left run s.list s within under;
+      marked = parts-append (set s.runs number now) s.pairs parts (Numbered number ∷ []) (parts-elsewhere number now s.runs s.pairs parts under w.marked)
+          (omega (arith, within, length-set s.runs number now), omega (arith, ap (λ (p : PairedRun). p.opened) is), omega (arith, ap (λ (p : PairedRun). p.to) is), tt);
+      under = under;
+      rising = rising-behind 0 number (record run { left = left }) (so_far parts first s) w.rising (omega arith) (low-so-far number first s parts under w.marked);
+      goes = d.goes;
+      rest_is = d.rest_is;
+      paid = d.paid;
+      made = d.made;
+      starts = omega (arith, d.starts, so-far-starts parts first s);
+    }
 
 -- a run that closes nothing is put behind as it is
 pub put-other : (parts : List Part) (s : State) (number : ℕ) (run : Run) (had : List Item) → number < length s.runs → number ≡ s.list.next → get_or s.runs number no_run ≡ closed_run run 0 0 → run.closes ≡ false → 1 ≤ run.left → PartsHold parts (length s.pairs) s had
     → PartAdded parts s run had s number run.left
 unfolding events_of
-put-other parts s number run had within at is other some w = record {
-  events = so_far parts (length s.pairs) s;
-  before = had;
-  rest = Delimiters run ∷ [];
-  waits = w.waits;
-  whole = ap (λ t. events_of s.runs s.pairs (parts ++ Numbered number ∷ []) ++ ends t) (drop-all s.pairs) ∙ append-nil (events_of s.runs s.pairs (parts ++ Numbered number ∷ []))
-      ∙ events-append s.runs s.pairs parts (Numbered number ∷ [])
-      ∙ ap (λ t. events_of s.runs s.pairs parts ++ t) (append-nil (run_events s.pairs number (get_or s.runs number no_run)) ∙ ap (run_events s.pairs number) is ∙ ap (λ t. Rest number run ∷ t) (chain-zero (reverse s.pairs)))
-      ∙ ap (λ t. t ++ Rest number run ∷ []) (sym (ap (λ t. events_of s.runs s.pairs parts ++ ends t) (drop-all s.pairs) ∙ append-nil (events_of s.runs s.pairs parts)));
-  marked = parts-append s.runs s.pairs parts (Numbered number ∷ []) w.marked (within, omega (arith, ap (λ (p : PairedRun). p.opened) is), omega (arith, ap (λ (p : PairedRun). p.to) is), tt);
-  under = under;
-  rising = rising-behind 0 number run (so_far parts (length s.pairs) s) w.rising (omega arith)
-      (low-append number (events_of s.runs s.pairs parts) (ends (drop (length s.pairs) s.pairs)) (low-parts number s.runs s.pairs parts under w.marked) (low-none number (ends (drop (length s.pairs) s.pairs)) (ends-none (drop (length s.pairs) s.pairs))));
-  goes = sym (pass-other had run other);
-  rest_is = sym (cond-false (nat_le run.left 0) [] (Delimiters run ∷ []) (not-none run.left some));
-  paid = λ kinds known. omega arith;
-  made = omega arith;
-  starts = omega (arith, so-far-starts parts (length s.pairs) s);
-}
-  where
-    under : AreUnder number parts
-    under = subst (λ n. AreUnder n parts) (sym at) w.under
+put-other parts s number run had within at is other some w = search (rules, drop-all, append-nil, events-append, chain-zero, parts-append, rising-behind, low-so-far, pass-other, cond-false, not-none, so-far-starts)
 
 -- The pass goes on, and the list is as waits-opener, waits-text or waits-gone has it.
 pub next-put : (parts : List Part) (old : State) (run : Run) (had : List Item) (s : State) (number left : ℕ) (list : Listed) (after : List Item) → (p : PartAdded parts old run had s number left) → list.next ≡ number + 1 → after ≡ passed had (Delimiters run)
     → WaitAsOpeners (p.events ++ Rest number (record run { left = left }) ∷ []) after list s.bottoms → ((kinds : ℕ) → kind run < kinds → spent kinds list s.bottoms ≤ spent kinds old.list old.bottoms + (kinds + 1 + run.left))
     → old.list.looks + items_emphases after ≤ list.looks + items_emphases had → PassGoesOn parts old run had (record s { list = list }) number
-next-put parts old run had s number left list after p next is waits paid made = record {
-  holds = subst (PartsHold (parts ++ Numbered number ∷ []) (length s.pairs) (record s { list = list })) is (record {
-    waits = subst (λ fs. WaitAsOpeners fs after list s.bottoms) (sym p.whole) waits;
-    marked = p.marked;
-    under = under-append number list.next parts (Numbered number ∷ []) (omega (arith, next)) p.under (omega (arith, next), tt);
-    rising = subst (Rising 0) (sym p.whole) p.rising;
-    early = omega arith;
-  });
-  paid = paid;
-  made = omega (arith, made, ap items_emphases (sym is));
-  starts = omega (arith, p.starts, ap starts_in p.whole, so-far-starts (parts ++ Numbered number ∷ []) (length s.pairs) s, starts-append p.events (Rest number (record run { left = left }) ∷ []));
-}
+next-put parts old run had s number left list after p next is waits paid made = search (rules,
+    (subst (PartsHold (parts ++ Numbered number ∷ []) (length s.pairs) (record s { list = list })) is
+        (record { waits = subst (λ fs. WaitAsOpeners fs after list s.bottoms) (sym p.whole) waits; marked = p.marked; under = under-append number list.next parts (Numbered number ∷ [])
+        (omega (arith, next)) p.under (omega (arith, next), tt); rising = subst (Rising 0) (sym p.whole) p.rising; early = omega arith; })),
+    paid, made, ap items_emphases (sym is), ap starts_in p.whole, so-far-starts (parts ++ Numbered number ∷ []) (length s.pairs) s,
+    starts-append p.events (Rest number (record run { left = left }) ∷ []))
 
 left-over : (parts : List Part) (old : State) (run : Run) (had : List Item) (s : State) (number left : ℕ) (p : PartAdded parts old run had s number left) (b : Bool) → nat_le left 0 ≡ b → cond b [] (Delimiters (record run { left = left }) ∷ []) ++ p.before ≡ passed had (Delimiters run)
 left-over parts old run had s number left p b h = ap (λ k. cond k [] (Delimiters (record run { left = left }) ∷ []) ++ p.before) (sym h) ∙ ap (λ t. t ++ p.before) (sym p.rest_is) ∙ p.goes

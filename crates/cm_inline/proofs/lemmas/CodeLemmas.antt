@@ -1,11 +1,10 @@
 -- The content of a code span: its line feeds as spaces, and its ends.
-use Rattle.std.proofs.Common.{◌≡◌, ℕ, zero, suc, ◌+◌, ◌-◌, ◌<◌, ◌≤◌, ◌==◌, ◌&&◌, ◌||◌, not, cond, Bool, true, false, List, [], ◌∷◌, ◌++◌, length, take, drop, get_or, refl, sym, ap, ◌∙◌, arith, add-one, length-drop}
-use Rattle.std.specs.List.{list_all, slice_range}
-use Rattle.std.proofs.lemmas.Bool.Decides.{nat_tests}
-use Rattle.std.proofs.lemmas.List.{take-take, drop-drop, length-take-le, get_or-take, get_or-drop}
-use Rattle.memchr.specs.Find.{is_byte, Passes, Nowhere}
-use Rattle.cm_scan.specs.spans.Autolinks.{ends_with}
-use Rattle.cm_scan.specs.spans.CodeSpans.{one_line, but_last, stripped}
+use Rattle.cm_inline.proofs.lemmas.Words.{◌≡◌, ℕ, zero, suc, ◌+◌, ◌-◌, ◌<◌, ◌≤◌, ◌==◌, ◌&&◌, ◌||◌, not, cond, Bool, true, false, List, [], ◌∷◌, ◌++◌, length, take}
+use Rattle.cm_inline.proofs.lemmas.Words.{drop, get_or, refl, sym, ap, ◌∙◌, arith, add-one, length-drop, list_all, slice_range, nat_tests, length-take-le, get_or-take}
+use Rattle.cm_inline.proofs.lemmas.Words.{is_byte, ends_with, one_line, stripped, rules}
+use Rattle.std.proofs.lemmas.List.{take-take, drop-drop, get_or-drop}
+use Rattle.memchr.specs.Find.{Passes, Nowhere}
+use Rattle.cm_scan.specs.spans.CodeSpans.{but_last}
 
 abbrev pub is_space : ℕ → Bool
 is_space b = b == 32 || b == 10
@@ -35,21 +34,14 @@ but_last-is b (c ∷ cs) = ap (λ t. cond (b == 10) 32 b ∷ t) (but_last-is c c
 stripped-is : (b : ℕ) (bs : List ℕ) (first last all : Bool) → is_space b ≡ first → is_space (get_or (b ∷ bs) (length bs) 0) ≡ last → list_all is_space (b ∷ bs) ≡ all
     → stripped (one_line (b ∷ bs)) ≡ cond (first && last && not all) (but_last (one_line bs)) (one_line (b ∷ bs))
 unfolding stripped
-stripped-is b bs first last all f l a =
-    ap (λ v. by v (ends_with 32 (one_line (b ∷ bs))) (list_all (λ c. c == 32) (one_line (b ∷ bs)))) (space-is b ∙ f)
-    ∙ ap (λ v. by first v (list_all (λ c. c == 32) (one_line (b ∷ bs)))) (last-is b bs ∙ l)
-    ∙ ap (by first last) (all-is (b ∷ bs) ∙ a)
-  where
-    by : Bool → Bool → Bool → List ℕ
-    by x y z = cond (x && y && not z) (but_last (one_line bs)) (one_line (b ∷ bs))
+stripped-is b bs first last all f l a = search (rules, space-is, last-is, all-is)
 
 -- the last byte by its place
 last-place : (b : ℕ) (bs : List ℕ) → get_or (b ∷ bs) (length (b ∷ bs) - 1) 0 ≡ get_or (b ∷ bs) (length bs) 0
 last-place b bs = let place : length (b ∷ bs) - 1 ≡ length bs = omega arith in ap (λ k. get_or (b ∷ bs) k 0) place
 
 and-false : (first : Bool) (all : Bool) → (first && false && not all) ≡ false
-and-false true all = refl
-and-false false all = refl
+and-false first all = grind (arith, nat_tests)
 
 pub stripped-short : (bs : List ℕ) → length bs < 2 → one_line bs ≡ stripped (one_line bs)
 unfolding stripped but_last
@@ -96,8 +88,7 @@ stripped-cut (b ∷ c ∷ cs) long first last all =
 -- a text up to its first line feed
 
 not-true : (b : Bool) → ¬ (b ≡ true) → b ≡ false
-not-true true other = absurd (other refl)
-not-true false other = refl
+not-true b other = grind (arith, nat_tests)
 
 same-first : (b : ℕ) (bs : List ℕ) (i : ℕ) → Nowhere (Passes (is_byte 10) (b ∷ bs)) 0 (suc i) → cond (b == 10) 32 b ≡ b
 same-first b bs i plain = ap (λ v. cond v 32 b) (not-true (b == 10) (plain 0 (omega arith) (omega arith)))
@@ -120,9 +111,7 @@ line-whole (b ∷ bs) plain = ap (λ t. b ∷ t) (line-whole bs (later b bs (len
 
 -- a part of a text without its ends
 inner : (n : ℕ) (bs : List ℕ) → take (n - 1 - 1) (drop 1 (take n bs)) ≡ take (n - 1 - 1) (drop 1 bs)
-inner zero bs = refl
-inner (suc n) [] = refl
-inner (suc n) (b ∷ bs) = let less : suc n - 1 - 1 ≤ n = omega arith in take-take (suc n - 1 - 1) n bs less
+inner n bs = grind (arith, nat_tests, take-take)
 
 -- its length and its ends
 pub part-length : (bs : List ℕ) (from to : ℕ) → from ≤ to → to ≤ length bs → length (slice_range bs from to) ≡ to - from
@@ -137,11 +126,7 @@ part-first bs from to some =
     get_or-take (to - from) (drop from bs) 0 0 less ∙ get_or-drop from bs 0 0 ∙ ap (λ n. get_or bs n 0) place
 
 pub part-last : (bs : List ℕ) (from to : ℕ) → from ≤ to → to ≤ length bs → 1 ≤ to - from → get_or (slice_range bs from to) (length (slice_range bs from to) - 1) 0 ≡ get_or bs (to - 1) 0
-part-last bs from to low high some =
-    let last : to - from - 1 < to - from = omega (arith, some) in
-    let place : from + (to - from - 1) ≡ to - 1 = omega (arith, some) in
-    ap (λ n. get_or (slice_range bs from to) (n - 1) 0) (part-length bs from to low high) ∙ get_or-take (to - from) (drop from bs) (to - from - 1) 0 last
-    ∙ get_or-drop from bs (to - from - 1) 0 ∙ ap (λ n. get_or bs n 0) place
+part-last bs from to low high some = search (rules, part-length, get_or-take, get_or-drop)
 
 pub inner-is : (bs : List ℕ) (from to : ℕ) → from ≤ to → to ≤ length bs → slice_range (slice_range bs from to) 1 (length (slice_range bs from to) - 1) ≡ slice_range bs (from + 1) (to - 1)
 inner-is bs from to low high =

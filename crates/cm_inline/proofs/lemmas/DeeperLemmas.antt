@@ -1,32 +1,19 @@
 -- What is finished among items stays, so that they never come to nest less deep.
-use Rattle.std.proofs.Common.{◌≡◌, ℕ, zero, suc, ◌+◌, ◌-◌, ◌<◌, ◌≤◌, Bool, true, false, not, ◌&&◌, List, [], ◌∷◌, length, reverse, Option, Some, None, refl, sym, ap, ◌∙◌, arith, max, cond}
-use Rattle.std.specs.Prelude.{Result, Ok, Err}
-use Rattle.std.specs.Result.{IsErrAnd}
-use Rattle.std.proofs.lemmas.Option.{none-some, same_Some}
-use Rattle.cm_text.specs.Rules.{Rules}
-use Rattle.cm_tree.specs.declared.tree.Inline.{Inline}
-use Rattle.cm_tree.specs.declared.tree.Inline.TheVariants.{Link, Image}
-use Rattle.cm_tree.specs.declared.tree.Inline.TheViews.{outs-Link, outs-Image}
-use Rattle.cm_tree.specs.declared.tree.Inline.TheFolds.{fold_out-Inline}
-use Rattle.cm_tree.specs.Depth.{depth_step, depth_of, inlines_depth}
-use Rattle.cm_scan.specs.inlines.Pairing.{Item, Characters, Finished, Linked, Delimiters, Opener, pair_all, emphasis_of, bracket_text}
-use Rattle.cm_scan.specs.inlines.OnePass.{passed, pass_from}
-use Rattle.cm_scan.specs.inlines.Atoms.{Atom, Plain, Whole, Delimiter, OpenBracket, CloseBracket, atom_at}
-use Rattle.cm_scan.specs.inlines.Brackets.{LinkEnd, Defined, end_at, OpenerFound, last_opener, holds_link, made, Bracketed, bracket_is_text, brackets_are_text, source_up_to, closed_by_bracket, close_bracket}
-use Rattle.cm_scan.specs.inlines.Inlines.{add_atom, item_step, items_after}
-use Rattle.cm_scan.proofs.lemmas.inlines.OnePassLemmas.{pairs_in_one_pass}
-use Rattle.cm_inline.specs.declared.fault.InlineFault.{InlineFault}
+use Rattle.cm_inline.proofs.lemmas.Words.{◌≡◌, ℕ, zero, suc, ◌+◌, ◌-◌, ◌<◌, ◌≤◌, Bool, List, [], ◌∷◌, length, reverse, Option, Some, None, refl, ap, arith, max}
+use Rattle.cm_inline.proofs.lemmas.Words.{Result, IsErrAnd, same_Some, Rules, Inline, Image, outs-Link, outs-Image, fold_out-Inline, depth_step, depth_of}
+use Rattle.cm_inline.proofs.lemmas.Words.{inlines_depth, Item, Characters, Finished, Linked, Delimiters, Opener, pair_all, emphasis_of, bracket_text, passed}
+use Rattle.cm_inline.proofs.lemmas.Words.{pass_from, Atom, atom_at, Defined, OpenerFound, last_opener, made, Bracketed, bracket_is_text, brackets_are_text}
+use Rattle.cm_inline.proofs.lemmas.Words.{closed_by_bracket, close_bracket, add_atom, item_step, items_after, pairs_in_one_pass, InlineFault, nat_tests, rules}
+use Rattle.std.specs.Prelude.{Err}
+use Rattle.std.proofs.lemmas.Option.{none-some}
+use Rattle.cm_tree.specs.declared.tree.Inline.TheVariants.{Link}
 use Rattle.cm_inline.specs.steps.Depths.{item_depth, items_depth}
-use Rattle.cm_inline.proofs.lemmas.PairDepthLemmas.{both, reverse-depth, settled-items, pass-deeper}
-
-abbrev fault_or : {A : Type 0} → InlineFault → Result A InlineFault → InlineFault
-fault_or f (Ok x) = f
-fault_or f (Err g) = g
+use Rattle.cm_inline.proofs.lemmas.PairDepthLemmas.{reverse-depth, settled-items, pass-deeper}
+use Rattle.cm_inline.proofs.lemmas.InlineDepthLemmas.{both}
 
 -- a fault that is passed on
 pub same-fault : {A : Type 0} (r : Result A InlineFault) (told fault : InlineFault) → IsErrAnd r (λ e. e ≡ told) → r ≡ Err fault → told ≡ fault
-same-fault (Ok x) told fault is e = absurd (cc e)
-same-fault (Err f) told fault is e = sym is ∙ ap (fault_or f) e
+same-fault r told fault is e = grind (arith, nat_tests)
 
 -- making all pairs makes nothing less deep
 
@@ -51,9 +38,7 @@ opener-parts (Characters text ∷ before) inside found e = omega (arith, opener-
 opener-parts (Finished inline ∷ before) inside found e = omega (arith, opener-parts before (Finished inline ∷ inside) found e)
 opener-parts (Linked inline ∷ before) inside found e = omega (arith, opener-parts before (Linked inline ∷ inside) found e)
 opener-parts (Delimiters run ∷ before) inside found e = omega (arith, opener-parts before (Delimiters run ∷ inside) found e)
-opener-parts (Opener image source ∷ before) inside found e =
-    let same = same_Some (record { before = before; image = image; source = source; inside = inside }) found e in
-    omega (arith, ap (λ (f : OpenerFound). items_depth f.before) same, ap (λ (f : OpenerFound). items_depth f.inside) same)
+opener-parts (Opener image source ∷ before) inside found e = search (rules, same_Some)
 
 pub link-depth : (dest title : List ℕ) (content : List Inline) → depth_of (Link dest title content) ≡ inlines_depth content + 1
 link-depth dest title content = simp (fold_out-Inline ℕ depth_step, outs-Link)
@@ -63,12 +48,7 @@ image-depth dest title content = simp (fold_out-Inline ℕ depth_step, outs-Imag
 
 -- a link or an image nests one deeper than its content
 pub made-depth : (image : Bool) (dest title : List ℕ) (inside : List Item) → item_depth (made image dest title inside) ≡ inlines_depth (emphasis_of inside) + 1
-made-depth false dest title inside = link-depth dest title (emphasis_of inside)
-made-depth true dest title inside = go (holds_link inside)
-  where
-    go : (b : Bool) → item_depth (cond b (Linked (Image dest title (emphasis_of inside))) (Finished (Image dest title (emphasis_of inside)))) ≡ inlines_depth (emphasis_of inside) + 1
-    go true = image-depth dest title (emphasis_of inside)
-    go false = image-depth dest title (emphasis_of inside)
+made-depth image dest title inside = grind (arith, nat_tests, link-depth, image-depth)
 
 -- and deeper than what is between its brackets
 pub made-deeper : (image : Bool) (dest title : List ℕ) (inside : List Item) → items_depth inside < item_depth (made image dest title inside)
@@ -79,18 +59,7 @@ texts-depth found = omega (arith, both (reverse found.inside) (Characters (brack
 
 by_bracket-deeper : (rules : Rules) (defined : Defined) (found : OpenerFound) (rest : List ℕ) → max (items_depth found.before) (items_depth found.inside) ≤ items_depth (closed_by_bracket rules defined found rest).items
 unfolding closed_by_bracket
-by_bracket-deeper rules defined found rest = go (not found.image && holds_link found.inside) (end_at rules defined (source_up_to found.source (93 ∷ rest)) rest)
-  where
-    as_text : Bracketed
-    as_text = record { items = brackets_are_text found; rest = rest }
-
-    go : (barred : Bool) (o : Option LinkEnd) → max (items_depth found.before) (items_depth found.inside) ≤ items_depth (elim barred as (λ _. Bracketed) [
-      | true ↦ as_text
-      | false ↦ elim o as (λ _. Bracketed) [ Some end ↦ record { items = made found.image end.dest end.title found.inside ∷ found.before; rest = end.rest } | None ↦ as_text ]
-    ]).items
-    go true o = omega (arith, texts-depth found)
-    go false None = omega (arith, texts-depth found)
-    go false (Some end) = omega (arith, made-deeper found.image end.dest end.title found.inside)
+by_bracket-deeper rules defined found rest = grind (arith, nat_tests, texts-depth, made-deeper)
 
 pub bracket-deeper : (rules : Rules) (defined : Defined) (items : List Item) (rest : List ℕ) → items_depth items ≤ items_depth (close_bracket rules defined items rest).items
 unfolding close_bracket
@@ -105,11 +74,7 @@ bracket-deeper rules defined items rest = go (last_opener items []) refl
 
 pub atom-deeper : (rules : Rules) (defined : Defined) (items : List Item) (atom : Atom) (rest : List ℕ) → items_depth items ≤ items_depth (add_atom rules defined items atom rest).items
 unfolding add_atom
-atom-deeper rules defined items (Plain text) rest = omega arith
-atom-deeper rules defined items (Whole inline) rest = omega arith
-atom-deeper rules defined items (Delimiter run) rest = omega arith
-atom-deeper rules defined items (OpenBracket image) rest = omega arith
-atom-deeper rules defined items CloseBracket rest = bracket-deeper rules defined items rest
+atom-deeper rules defined items atom rest = grind (arith, nat_tests, bracket-deeper)
 
 step-deeper : (rules : Rules) (defined : Defined) (before : List ℕ) (b : ℕ) (bs : List ℕ) (items : List Item) → items_depth items ≤ items_depth (item_step rules defined before b bs items).items
 unfolding item_step

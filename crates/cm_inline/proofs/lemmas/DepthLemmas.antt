@@ -1,51 +1,31 @@
 -- How deep an inline nests that contains no other.
-use Rattle.std.proofs.Common.{◌≡◌, ℕ, ◌+◌, ◌-◌, ◌≤◌, ◌++◌, Bool, List, [], ◌∷◌, ap, max, arith}
-use Rattle.std.specs.List.{slice_range}
-use Rattle.cm_tree.specs.declared.tree.Inline.{Inline}
-use Rattle.cm_scan.specs.spans.CodeSpans.{one_line}
-use Rattle.cm_tree.specs.declared.tree.Inline.TheVariants.{Text, Code, Html, Soft, Hard}
-use Rattle.cm_tree.specs.declared.tree.Inline.TheViews.{outs-Text, outs-Code, outs-Html, outs-Soft, outs-Hard, outs-Link}
-use Rattle.cm_tree.specs.declared.tree.Inline.TheFolds.{fold_out-Inline}
-use Rattle.cm_tree.specs.Depth.{depth_step, depth_of, inlines_depth}
-use Rattle.cm_inline.specs.declared.marks.Kind.{Kind}
+use Rattle.cm_inline.proofs.lemmas.Words.{◌≡◌, ℕ, ◌+◌, ◌-◌, ◌≤◌, ◌++◌, Bool, List, [], ◌∷◌, ap, max, arith, Inline, Text, Code, Html, Soft, Hard, outs-Code, outs-Html}
+use Rattle.cm_inline.proofs.lemmas.Words.{outs-Soft, outs-Hard, outs-Link, fold_out-Inline, depth_step, depth_of, inlines_depth, Kind, nat_tests}
 use Rattle.cm_inline.specs.declared.marks.Kind.TheVariants as kinds
 use Rattle.cm_inline.specs.steps.Reads.{inline_in}
 use Rattle.cm_inline.specs.steps.Standalone.{autolink}
+use Rattle.cm_inline.proofs.lemmas.InlineDepthLemmas.{text-depth}
 
-text-depth : (text : List ℕ) → depth_of (Text text) ≡ 0
-text-depth text = simp (fold_out-Inline ℕ depth_step, outs-Text)
-
-code-depth : (text : List ℕ) → depth_of (Code text) ≡ 0
+pub code-depth : (text : List ℕ) → depth_of (Code text) ≡ 0
 code-depth text = simp (fold_out-Inline ℕ depth_step, outs-Code)
 
-html-depth : (text : List ℕ) → depth_of (Html text) ≡ 0
+pub html-depth : (text : List ℕ) → depth_of (Html text) ≡ 0
 html-depth text = simp (fold_out-Inline ℕ depth_step, outs-Html)
 
 pub soft-depth : depth_of Soft ≡ 0
 soft-depth = simp (fold_out-Inline ℕ depth_step, outs-Soft)
 
-hard-depth : depth_of Hard ≡ 0
+pub hard-depth : depth_of Hard ≡ 0
 hard-depth = simp (fold_out-Inline ℕ depth_step, outs-Hard)
 
-autolink-depth : (is_address : Bool) (text : List ℕ) → depth_of (autolink is_address text) ≡ 1
+pub autolink-depth : (is_address : Bool) (text : List ℕ) → depth_of (autolink is_address text) ≡ 1
 autolink-depth is_address text =
     let one : depth_of (autolink is_address text) ≡ inlines_depth (Text text ∷ []) + 1 = simp (fold_out-Inline ℕ depth_step, outs-Link) in
     omega (arith, one, text-depth text)
 
 -- so it nests one deep at most
 pub inline-shallow : (source : List ℕ) (at end : ℕ) (kind : Kind) → depth_of (inline_in source at end kind) ≤ 1
-inline-shallow source at end (kinds.Code from to) = omega (arith, code-depth (one_line (slice_range source from to)))
-inline-shallow source at end kinds.Html = omega (arith, html-depth (slice_range source at end))
-inline-shallow source at end (kinds.Autolink is_address) = omega (arith, autolink-depth is_address (slice_range source (at + 1) (end - 1)))
-inline-shallow source at end kinds.Hard = omega (arith, hard-depth)
-inline-shallow source at end kinds.Soft = omega (arith, soft-depth)
-inline-shallow source at end kinds.Plain = omega (arith, soft-depth)
-inline-shallow source at end kinds.Escaped = omega (arith, soft-depth)
-inline-shallow source at end kinds.Nothing = omega (arith, soft-depth)
-inline-shallow source at end (kinds.Character c) = omega (arith, soft-depth)
-inline-shallow source at end (kinds.Run number) = omega (arith, soft-depth)
-inline-shallow source at end (kinds.Start number) = omega (arith, soft-depth)
-inline-shallow source at end (kinds.End number) = omega (arith, soft-depth)
+inline-shallow source at end kind = grind (arith, nat_tests, code-depth, html-depth, autolink-depth, hard-depth, soft-depth)
 
 -- inlines with one more after them
 pub one-more-depth : (inlines all : List Inline) (last : Inline) → all ≡ inlines ++ last ∷ [] → (inlines_depth inlines ≤ inlines_depth all) × (depth_of last ≤ inlines_depth all)

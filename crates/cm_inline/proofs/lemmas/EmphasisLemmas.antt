@@ -1,18 +1,11 @@
 -- How many of emphasis, strong emphasis and strikethrough items hold, and what is made of them.
-use Rattle.std.proofs.Common.{◌≡◌, ℕ, ◌+◌, ◌-◌, Bool, true, false, nat_le, ◌==◌, List, [], ◌∷◌, ◌++◌, reverse, Some, refl, ap, arith}
-use Rattle.std.specs.Prelude.{if◌then◌else◌, replicate}
-use Rattle.std.proofs.lemmas.List.{reverse-append}
-use Rattle.cm_tree.specs.declared.tree.Inline.{Inline}
-use Rattle.cm_tree.specs.declared.tree.Inline.TheVariants.{Text, Code, Html, Soft, Hard, Emph, Strong, Strike, Link, Image}
-use Rattle.cm_tree.specs.declared.tree.Inline.TheViews.{outs-Text, outs-Code, outs-Html, outs-Soft, outs-Hard, outs-Emph, outs-Strong, outs-Strike, outs-Link, outs-Image}
-use Rattle.cm_tree.specs.declared.tree.Inline.TheFolds.{fold_out-Inline}
-use Rattle.cm_scan.specs.spans.Autolinks.{Autolink}
-use Rattle.cm_scan.specs.inlines.Atoms.{link_of}
-use Rattle.cm_scan.specs.inlines.Delimiters.{Run}
-use Rattle.cm_scan.specs.inlines.Pairing.{Item, Characters, Finished, Linked, Delimiters, Opener, Opened, bracket_text, text_before, settled_after, settled, emphasis_of, emphasised, used, without, nearest_opener}
-use Rattle.cm_scan.specs.inlines.Brackets.{holds_link, made}
-use Rattle.cm_scan.specs.inlines.OnePass.{up_to_pair}
-use Rattle.cm_scan.proofs.lemmas.inlines.PairingLemmas.{nearest-splits}
+use Rattle.cm_inline.proofs.lemmas.Words.{◌≡◌, ℕ, ◌+◌, ◌-◌, Bool, true, false, nat_le, ◌==◌, List, [], ◌∷◌, ◌++◌, reverse, Some, refl, ap, arith, sym, ◌∙◌}
+use Rattle.cm_inline.proofs.lemmas.Words.{if◌then◌else◌, reverse-append, Inline, Text, Code, Html, Soft, Hard, Emph, Strong, Strike, Image, outs-Text, outs-Code}
+use Rattle.cm_inline.proofs.lemmas.Words.{outs-Html, outs-Soft, outs-Hard, outs-Emph, outs-Strong, outs-Strike, outs-Link, outs-Image, fold_out-Inline, Autolink}
+use Rattle.cm_inline.proofs.lemmas.Words.{link_of, Run, Item, Finished, Linked, Delimiters, Opened, text_before, settled_after, settled, emphasis_of, emphasised, used}
+use Rattle.cm_inline.proofs.lemmas.Words.{without, nearest_opener, made, up_to_pair, nearest-splits, nat_tests, rules}
+use Rattle.std.proofs.Common.{zero-add}
+use Rattle.cm_tree.specs.declared.tree.Inline.TheVariants.{Link}
 use Rattle.cm_inline.specs.Emphases.{emphases_step, emphases_of, emphases}
 use Rattle.cm_inline.specs.steps.Pairs.{items_emphases}
 
@@ -52,35 +45,23 @@ autolink-holds link = omega (arith, link-holds link.destination [] (Text link.te
 image-holds : (dest title : List ℕ) (content : List Inline) → emphases_of (Image dest title content) ≡ emphases content
 image-holds dest title content = simp (fold_out-Inline ℕ emphases_step, outs-Image)
 
-pub emph-holds : (content : List Inline) → emphases_of (Emph content) ≡ emphases content + 1
-emph-holds content = simp (fold_out-Inline ℕ emphases_step, outs-Emph)
-
-strong-holds : (content : List Inline) → emphases_of (Strong content) ≡ emphases content + 1
-strong-holds content = simp (fold_out-Inline ℕ emphases_step, outs-Strong)
-
-strike-holds : (content : List Inline) → emphases_of (Strike content) ≡ emphases content + 1
-strike-holds content = simp (fold_out-Inline ℕ emphases_step, outs-Strike)
-
 emphasised-holds : (character count : ℕ) (content : List Inline) → emphases_of (emphasised character count content) ≡ emphases content + 1
 emphasised-holds character count content = go (character == 126) (count == 2)
   where
     go : (tilde two : Bool) → emphases_of (if tilde then Strike content else (if two then Strong content else Emph content)) ≡ emphases content + 1
-    go true two = strike-holds content
-    go false true = strong-holds content
-    go false false = emph-holds content
+    go true two = simp (fold_out-Inline ℕ emphases_step, outs-Strike)
+    go false true = simp (fold_out-Inline ℕ emphases_step, outs-Strong)
+    go false false = simp (fold_out-Inline ℕ emphases_step, outs-Emph)
 
 text-first : (text : List ℕ) (inlines : List Inline) → emphases (text_before text inlines) ≡ emphases inlines
-text-first [] inlines = refl
-text-first (b ∷ bs) inlines = omega (arith, text-holds (b ∷ bs))
+text-first text inlines = grind (arith, nat_tests, text-holds)
 
 settled-after : (text : List ℕ) (items : List Item) → emphases (settled_after text items) ≡ items_emphases items
 unfolding settled_after
 settled-after text [] = text-first text []
-settled-after text (Characters more ∷ items) = omega (arith, settled-after (text ++ more) items)
-settled-after text (Delimiters run ∷ items) = omega (arith, settled-after (text ++ replicate run.left run.character) items)
-settled-after text (Opener image source ∷ items) = omega (arith, settled-after (text ++ bracket_text image) items)
 settled-after text (Finished inline ∷ items) = omega (arith, text-first text (inline ∷ settled_after [] items), settled-after [] items)
 settled-after text (Linked inline ∷ items) = omega (arith, text-first text (inline ∷ settled_after [] items), settled-after [] items)
+settled-after text (_ ∷ items) = settled-after _ items ∙ sym (zero-add (items_emphases items))
 
 pub settled-holds : (items : List Item) → emphases (settled items) ≡ items_emphases items
 settled-holds items = settled-after [] items
@@ -88,35 +69,15 @@ settled-holds items = settled-after [] items
 -- a pair makes one more
 
 rest-holds : (n : ℕ) (run : Run) → items_emphases (without n run) ≡ 0
-rest-holds n run = go (nat_le run.left n)
-  where
-    go : (b : Bool) → items_emphases (if b then [] else Delimiters (record run { left = run.left - n }) ∷ []) ≡ 0
-    go true = refl
-    go false = refl
+rest-holds n run = elim (nat_le run.left n) as (λ b. items_emphases (if b then [] else Delimiters (record run { left = run.left - n }) ∷ []) ≡ 0) [ true ↦ refl | false ↦ refl ]
 
 pub pair-holds : (before : List Item) (closer : Run) (found : Opened) → nearest_opener closer before [] ≡ Some found → items_emphases (up_to_pair found closer) ≡ items_emphases before + 1
 pair-holds before closer found is =
     let n = used found.opener closer in
     let inside = emphasised closer.character n (settled found.inside) in
     let whole = ap items_emphases (nearest-splits closer before [] found is) in
-    omega (
-      arith,
-      whole,
-      both-hold (reverse before) [],
-      reversed-hold before,
-      both-hold found.before (Delimiters found.opener ∷ found.inside),
-      both-hold (found.before ++ without n found.opener) (Finished inside ∷ []),
-      both-hold found.before (without n found.opener),
-      rest-holds n found.opener,
-      emphasised-holds closer.character n (settled found.inside),
-      settled-holds found.inside,
-    )
+    search (rules, both-hold, reversed-hold, rest-holds, emphasised-holds, settled-holds)
 
 -- a link or an image holds what its content holds
 pub made-holds : (image : Bool) (dest title : List ℕ) (inside : List Item) → items_emphases (made image dest title inside ∷ []) ≡ emphases (emphasis_of inside)
-made-holds false dest title inside = omega (arith, link-holds dest title (emphasis_of inside))
-made-holds true dest title inside = go (holds_link inside)
-  where
-    go : (v : Bool) → items_emphases ((if v then Linked (Image dest title (emphasis_of inside)) else Finished (Image dest title (emphasis_of inside))) ∷ []) ≡ emphases (emphasis_of inside)
-    go true = omega (arith, image-holds dest title (emphasis_of inside))
-    go false = omega (arith, image-holds dest title (emphasis_of inside))
+made-holds image dest title inside = grind (arith, nat_tests, link-holds, image-holds)

@@ -1,11 +1,7 @@
 -- A start and an end round events that stand for items.
-use Rattle.std.proofs.Common.{◌≡◌, ℕ, Bool, true, false, cond, ◌==◌, List, [], ◌∷◌, ◌++◌, replicate, zero, refl, sym, ap, ◌∙◌, append-nil, append_assoc}
-use Rattle.std.proofs.lemmas.List.{map-append}
-use Rattle.cm_tree.specs.declared.tree.Inline.{Inline}
-use Rattle.cm_tree.specs.declared.tree.Inline.TheVariants.{Emph, Strong, Strike}
-use Rattle.cm_scan.specs.inlines.Delimiters.{Run}
-use Rattle.cm_scan.specs.inlines.Pairing.{Item, Characters, Finished, Linked, Delimiters, Opener, text_before, settled, settled_after, emphasised}
-use Rattle.cm_inline.specs.steps.pairing.Events.{Event, Rest, Tag, Emphasis, StrongEmphasis, Strikethrough, Start, End, Built, made_of, tag_of, ended, innermost, others, add_text, build_one, build, leaf, leaves, Means, nothing_built, inlines_of}
+use Rattle.cm_inline.proofs.lemmas.Words.{◌≡◌, ℕ, List, [], ◌∷◌, ◌++◌, zero, refl, sym, ap, ◌∙◌, append_assoc, map-append, Inline, Run, Item, Characters, Finished}
+use Rattle.cm_inline.proofs.lemmas.Words.{Linked, Delimiters, Opener, text_before, settled, settled_after, emphasised, rules, nat_tests, arith, replicate, append-nil}
+use Rattle.cm_inline.specs.steps.pairing.Events.{Event, Rest, Tag, Start, End, Built, made_of, tag_of, ended, innermost, others, build_one, build, leaf, leaves, Means, nothing_built, inlines_of, add_text}
 
 pub build-append : (m : Built) (fs gs : List Event) → build m (fs ++ gs) ≡ build (build m fs) gs
 unfolding build
@@ -17,16 +13,12 @@ pub means-append : (fs gs : List Event) (xs ys : List Item) → Means fs xs → 
 means-append fs gs xs ys f g m =
     build-append m fs gs ∙ g (build m fs) ∙ ap (λ t. build t (leaves ys)) (f m) ∙ sym (build-append m (leaves xs) (leaves ys)) ∙ ap (build m) (sym (map-append leaf xs ys))
 
-pub means-none : Means [] []
-means-none m = refl
-
 pub means-rest : (number : ℕ) (r : Run) → Means (Rest number r ∷ []) (Delimiters r ∷ [])
 unfolding build
 means-rest number r m = refl
 
 text-split : (text : List ℕ) (more : List Inline) → text_before text more ≡ text_before text [] ++ more
-text-split [] more = refl
-text-split (b ∷ bs) more = refl
+text-split text more = grind (arith, nat_tests)
 
 -- what items make of what holds before them
 pub leaves-outer : (items : List Item) (m : Built) → (build m (leaves items)).outer ≡ m.outer
@@ -64,15 +56,13 @@ means-empty number r e m = ap (λ n. add_text m (replicate n r.character)) e ∙
 pub means-wrap : (fs : List Event) (inside : List Item) (tag : Tag) → Means fs inside → Means (Start tag ∷ fs ++ End tag ∷ []) (Finished (made_of tag (settled inside)) ∷ [])
 unfolding build
 means-wrap fs inside tag h m =
+    let opened = build_one m (Start tag) in
     build-append opened fs (End tag ∷ [])
     ∙ ap (λ t. build_one t (End tag)) (h opened)
     ∙ ap (λ o. closed o (ended (build opened (leaves inside)))) (leaves-outer inside opened)
     ∙ ap (closed (ended m ∷ m.outer)) (leaves-settle inside opened)
     ∙ ap (λ c. made c) (append_assoc m.content (text_before m.text []) (made_of tag (settled inside) ∷ []) ∙ ap (λ t. m.content ++ t) (sym (text-split m.text (made_of tag (settled inside) ∷ []))))
   where
-    opened : Built
-    opened = build_one m (Start tag)
-
     closed : List (List Inline) → List Inline → Built
     closed o inlines = record { content = innermost o ++ made_of tag inlines ∷ []; text = []; outer = others o }
 
@@ -80,12 +70,7 @@ means-wrap fs inside tag h m =
     made c = record { content = c; text = []; outer = m.outer }
 
 pub tag-makes : (character count : ℕ) (content : List Inline) → made_of (tag_of character count) content ≡ emphasised character count content
-tag-makes character count content = go (character == 126) (count == 2)
-  where
-    go : (b d : Bool) → made_of (cond b Strikethrough (cond d StrongEmphasis Emphasis)) content ≡ cond b (Strike content) (cond d (Strong content) (Emph content))
-    go true d = refl
-    go false true = refl
-    go false false = refl
+tag-makes character count content = search rules
 
 pub means-settles : (fs : List Event) (items : List Item) → Means fs items → inlines_of fs ≡ settled items
 means-settles fs items h = ap ended (h nothing_built) ∙ leaves-settle items nothing_built

@@ -1,13 +1,8 @@
 -- Texts in HTML.
-use Rattle.std.proofs.Common.{◌≡◌, ℕ, zero, suc, ◌+◌, ◌-◌, ◌<◌, ◌≤◌, ◌==◌, ◌||◌, not, cond, Bool, true, false, List, [], ◌∷◌, ◌++◌, take, drop, refl, sym, ap, ◌∙◌, arith, append_assoc, take-add, drop-drop}
-use Rattle.std.specs.Prelude.{replicate, Result, Ok, Err, OnOk}
-use Rattle.std.specs.List.{slice_range, list_all}
-use Rattle.std.proofs.lemmas.Grind.{flat_map-append}
-use Rattle.std.proofs.lemmas.Bool.{and_parts}
-use Rattle.cm_html.specs.Escape.{escape_byte, escape}
-use Rattle.cm_scan.specs.spans.CodeSpans.{one_line}
-use Rattle.cm_inline.specs.declared.delimiter_runs.Marker.{Marker}
-use Rattle.cm_inline.specs.declared.delimiter_runs.Marker.TheVariants.{Star, Underscore, Tilde}
+use Rattle.cm_inline.proofs.lemmas.Words.{◌≡◌, ℕ, zero, suc, ◌+◌, ◌-◌, ◌<◌, true, false, List, [], ◌∷◌, ◌++◌, refl, sym, ap, ◌∙◌, arith, append_assoc, Result}
+use Rattle.cm_inline.proofs.lemmas.Words.{list_all, flat_map-append, and_parts, escape_byte, escape, one_line, Marker, Star, Tilde, rules, nat_tests}
+use Rattle.std.specs.Prelude.{replicate, OnOk}
+use Rattle.cm_inline.specs.declared.delimiter_runs.Marker.TheVariants.{Underscore}
 use Rattle.cm_inline.specs.steps.Marks.{stays_text}
 use Rattle.cm_inline.specs.steps.Runs.{byte_of}
 
@@ -32,15 +27,7 @@ line-html html line rest whole e =
 
 -- a byte of text is its own HTML
 pub byte-html : (b : ℕ) → stays_text false b ≡ true → escape_byte b ≡ b ∷ []
-byte-html b h = go (b == 38) (b == 60) (b == 62) (b == 34) (and_parts (not (b == 38 || b == 60 || b == 62 || b == 34)) (not false) h).0
-  where
-    go : (p q r s : Bool) → not (p || q || r || s) ≡ true
-        → cond p (38 ∷ 97 ∷ 109 ∷ 112 ∷ 59 ∷ []) (cond q (38 ∷ 108 ∷ 116 ∷ 59 ∷ []) (cond r (38 ∷ 103 ∷ 116 ∷ 59 ∷ []) (cond s (38 ∷ 113 ∷ 117 ∷ 111 ∷ 116 ∷ 59 ∷ []) (b ∷ [])))) ≡ b ∷ []
-    go true q r s e = absurd (cc e)
-    go false true r s e = absurd (cc e)
-    go false false true s e = absurd (cc e)
-    go false false false true e = absurd (cc e)
-    go false false false false e = refl
+byte-html b h = search rules
 
 pub text-html : (text : List ℕ) → list_all (stays_text false) text ≡ true → escape text ≡ text
 text-html [] h = refl
@@ -48,18 +35,6 @@ text-html (b ∷ bs) h =
     let parts = and_parts (stays_text false b) (list_all (stays_text false) bs) h in
     ap (λ t. t ++ escape bs) (byte-html b parts.0) ∙ ap (λ t. b ∷ t) (text-html bs parts.1)
 
--- parts of a source side by side
-pub slice-both : (source : List ℕ) (from to end : ℕ) → from ≤ to → to ≤ end → slice_range source from end ≡ slice_range source from to ++ slice_range source to end
-slice-both source from to end first second =
-    let long : end - from ≡ to - from + (end - to) = omega (arith, first, second) in
-    let place : from + (to - from) ≡ to = omega (arith, first) in
-    ap (λ n. take n (drop from source)) long ∙ take-add (to - from) (end - to) (drop from source)
-    ∙ ap (λ t. slice_range source from to ++ take (end - to) t) (drop-drop (to - from) from source ∙ ap (λ n. drop n source) place)
-
-pub slice-none : (source : List ℕ) (from to : ℕ) → from ≡ to → slice_range source from to ≡ []
-slice-none source from to same = let none : to - from ≡ 0 = omega (arith, same) in ap (λ n. take n (drop from source)) none
-
 -- what follows where there was memory
 pub on-ok : {T E : Type 0} {P Q : Type 0} (r : Result T E) → OnOk r P → (P → Q) → OnOk r Q
-on-ok (Ok x) p f = f p
-on-ok (Err e) p f = tt
+on-ok r p f = grind (arith, nat_tests)

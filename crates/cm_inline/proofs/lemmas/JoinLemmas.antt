@@ -1,19 +1,10 @@
 -- Marks between places, joined, and with what is known of them later.
-use Rattle.std.proofs.Common.{◌≡◌, ℕ, zero, suc, ◌<◌, ◌≤◌, Bool, true, ◌&&◌, List, [], ◌∷◌, ◌++◌, length, get_or, replicate, refl, sym, ap, subst, ◌∙◌, arith, append_assoc, length-append}
-use Rattle.std.specs.List.{slice_range, list_all}
-use Rattle.std.proofs.lemmas.Bool.{and_parts}
-use Rattle.std.proofs.lemmas.List.{map-append}
-use Rattle.cm_tree.specs.Definitions.{Targets}
-use Rattle.cm_inline.specs.declared.brackets.Link.{Link}
-use Rattle.cm_inline.specs.declared.marks.Mark.{Mark}
-use Rattle.cm_inline.specs.declared.marks.Kind.{Kind}
+use Rattle.cm_inline.proofs.lemmas.Words.{◌≡◌, ℕ, ◌<◌, ◌≤◌, Bool, true, ◌&&◌, List, [], ◌∷◌, ◌++◌, length, refl, sym, ap, subst, ◌∙◌, arith, append_assoc}
+use Rattle.cm_inline.proofs.lemmas.Words.{length-append, slice_range, list_all, and_parts, map-append, get_or_append_left, Targets, Link, Mark, Kind, HeldRun, rules}
+use Rattle.cm_inline.proofs.lemmas.Words.{nat_tests}
 use Rattle.cm_inline.specs.declared.marks.Kind.TheVariants as kinds
-use Rattle.cm_inline.specs.declared.runs.Run.{Run as HeldRun}
-use Rattle.cm_inline.specs.steps.pairing.Events.{Start, End}
-use Rattle.cm_inline.specs.steps.pairing.Parts.{Known}
 use Rattle.cm_inline.specs.steps.pairing.States.{run_at}
-use Rattle.cm_inline.specs.steps.Marks.{part_of, part_of_kind, texts, text_part, parts_between, stays_text, no_link, IsUnmarked, IsTargetIn, IsLinkIn, IsOfKind, AreLaid, link_tag}
-use Rattle.cm_inline.specs.steps.Runs.{byte_of}
+use Rattle.cm_inline.specs.steps.Marks.{part_of, part_of_kind, texts, text_part, parts_between, stays_text, no_link, IsUnmarked, IsTargetIn, IsLinkIn, IsOfKind, AreLaid}
 use Rattle.cm_inline.proofs.lemmas.SliceLemmas.{slice-both, slice-none}
 
 -- text between three places
@@ -68,57 +59,26 @@ module _ (lines : Bool) (source : List ℕ) (targets : Targets) (runs : List Hel
 abbrev pub Later : List HeldRun → List HeldRun → Type 0
 Later old new = (number : ℕ) → number < length old → (number < length new) × ((run_at new number).run.marker ≡ (run_at old number).run.marker) × ((run_at new number).run.whole ≡ (run_at old number).run.whole)
 
-get-front : {A : Type 0} (xs ys : List A) (n : ℕ) (d : A) → n < length xs → get_or (xs ++ ys) n d ≡ get_or xs n d
-get-front [] ys n d h = absurd (omega (arith, h))
-get-front (x ∷ xs) ys zero d h = refl
-get-front (x ∷ xs) ys (suc n) d h = get-front xs ys n d (omega (arith, h))
-
 pub later-more : (runs more : List HeldRun) → Later runs (runs ++ more)
 later-more runs more number h =
-    let same = get-front runs more number _ h in
+    let same = get_or_append_left runs more _ number h in
     (omega (arith, h, length-append runs more), ap (λ (r : HeldRun). r.run.marker) same, ap (λ (r : HeldRun). r.run.whole) same)
 
 module _ (lines : Bool) (source : List ℕ) (targets : Targets) (runs now : List HeldRun) (links more : List Link) (later : Later runs now) where
   link-later : (number : ℕ) → IsLinkIn source targets links number → IsLinkIn source targets (links ++ more) number
-  link-later number h = record { known = omega (arith, h.known, length-append links more); target = subst (λ (l : Link). IsTargetIn source targets l.target) (sym (get-front links more number no_link h.known)) h.target }
+  link-later number h = record { known = omega (arith, h.known, length-append links more); target = subst (λ (l : Link). IsTargetIn source targets l.target) (sym (get_or_append_left links more no_link number h.known)) h.target }
 
   kind-later : (at end : ℕ) (kind : Kind) → IsOfKind source targets runs links at end kind → IsOfKind source targets now (links ++ more) at end kind
-  kind-later at end kinds.Plain h = h
-  kind-later at end kinds.Escaped h = h
-  kind-later at end kinds.Nothing h = tt
-  kind-later at end (kinds.Character c) h = tt
-  kind-later at end (kinds.Code from to) h = h
-  kind-later at end kinds.Html h = tt
-  kind-later at end (kinds.Autolink is_address) h = h
-  kind-later at end kinds.Soft h = tt
-  kind-later at end kinds.Hard h = tt
-  kind-later at end (kinds.Run number) h =
-      let l = later number h.0 in
-      (l.0, h.1 ∙ ap (λ n. replicate n (byte_of (run_at runs number).run.marker)) (sym l.2) ∙ ap (λ m. replicate (run_at now number).run.whole (byte_of m)) (sym l.1))
-  kind-later at end (kinds.Start number) h = link-later number h
-  kind-later at end (kinds.End number) h = link-later number h
+  kind-later at end kind h = grind (arith, nat_tests, link-later)
 
   pub laid-later : (from to : ℕ) (ms : List Mark) → AreLaid lines source targets runs links from to ms → AreLaid lines source targets now (links ++ more) from to ms
   laid-later from to [] h = h
   laid-later from to (m ∷ ms) h = (h.0, h.1, kind-later m.at m.end m.kind h.2, laid-later m.end to ms h.3)
 
   part-later : (at end : ℕ) (kind : Kind) → IsOfKind source targets runs links at end kind → part_of_kind source targets (links ++ more) at end kind ≡ part_of_kind source targets links at end kind
-  part-later at end kinds.Plain h = refl
-  part-later at end kinds.Escaped h = refl
-  part-later at end kinds.Nothing h = refl
-  part-later at end (kinds.Character c) h = refl
-  part-later at end (kinds.Code from to) h = refl
-  part-later at end kinds.Html h = refl
-  part-later at end (kinds.Autolink is_address) h = refl
-  part-later at end kinds.Soft h = refl
-  part-later at end kinds.Hard h = refl
-  part-later at end (kinds.Run number) h = refl
-  part-later at end (kinds.Start number) h = ap (λ (l : Link). Known (Start (link_tag source targets number l) ∷ [])) (get-front links more number no_link h.known)
-  part-later at end (kinds.End number) h = ap (λ (l : Link). Known (End (link_tag source targets number l) ∷ [])) (get-front links more number no_link h.known)
+  part-later at end kind h = grind (arith, nat_tests, get_or_append_left)
 
   pub parts-later : (from to : ℕ) (ms : List Mark) → AreLaid lines source targets runs links from to ms → parts_between source targets (links ++ more) from to ms ≡ parts_between source targets links from to ms
   unfolding parts_between
   parts-later from to [] h = refl
-  parts-later from to (m ∷ ms) h =
-      ap (λ p. texts (slice_range source from m.at) ++ p ∷ parts_between source targets (links ++ more) m.end to ms) (part-later m.at m.end m.kind h.2)
-      ∙ ap (λ t. texts (slice_range source from m.at) ++ part_of source targets links m ∷ t) (parts-later m.end to ms h.3)
+  parts-later from to (m ∷ ms) h = search (rules, part-later, (parts-later m.end to ms h.3))

@@ -1,21 +1,12 @@
 -- What a `]` does to the looks for which items pay.
-use Rattle.std.proofs.Common.{◌≡◌, ℕ, ◌+◌, Bool, true, false, List, [], ◌∷◌, ◌++◌, refl, ap, ◌∙◌, arith}
-use Rattle.std.specs.Prelude.{if◌then◌else◌}
-use Rattle.cm_tree.specs.declared.tree.Inline.TheVariants.{Image}
-use Rattle.cm_scan.specs.inlines.Brackets.{holds_link, made}
-use Rattle.cm_scan.specs.inlines.Pairing.{Item, Characters, Finished, Linked, Opener, emphasis_of}
+use Rattle.cm_inline.proofs.lemmas.Words.{◌≡◌, ℕ, ◌+◌, Bool, List, [], ◌∷◌, ◌++◌, ap, ◌∙◌, arith, made, Item, Characters, Opener, emphasis_of, rules, nat_tests}
 use Rattle.cm_inline.specs.Emphases.{emphases}
 use Rattle.cm_inline.specs.steps.Pairs.{IsOf, AreLooks, Keeps, allowed, allowance}
 use Rattle.cm_inline.proofs.lemmas.EmphasisLemmas.{both-hold, made-holds}
 use Rattle.cm_inline.proofs.lemmas.AllowanceLemmas.{of-append, of-split, allowance-both, allowance-one}
 
 made-free : (kinds : ℕ) (image : Bool) (dest title : List ℕ) (inside : List Item) → IsOf kinds (made image dest title inside) × (allowed kinds (made image dest title inside) ≡ 0)
-made-free kinds false dest title inside = (tt, refl)
-made-free kinds true dest title inside = go (holds_link inside)
-  where
-    go : (v : Bool) → let item = if v then Linked (Image dest title (emphasis_of inside)) else Finished (Image dest title (emphasis_of inside)) in IsOf kinds item × (allowed kinds item ≡ 0)
-    go true = (tt, refl)
-    go false = (tt, refl)
+made-free kinds image dest title inside = grind (arith, nat_tests)
 
 -- what items pay for is paid for by each in turn
 first-pays : (kinds : ℕ) (item : Item) (items : List Item) → allowance kinds (item ∷ items) ≡ allowed kinds item + allowance kinds items
@@ -68,8 +59,5 @@ module _ (looks : ℕ) (outside inside : List Item) (image : Bool) (behind : Lis
 
 -- a `]` without a bracket
 pub keeps-closer : (looks : ℕ) (items : List Item) (text : List ℕ) → Keeps looks items looks (items ++ Characters text ∷ [])
-keeps-closer looks items text = record {
-  are = λ kinds is. of-append kinds items (Characters text ∷ []) is (tt, tt);
-  paid = λ kinds is. omega (arith, allowance-both kinds items (Characters text ∷ []), allowance-one kinds (Characters text));
-  made = omega (arith, both-hold items (Characters text ∷ []));
-}
+keeps-closer looks items text =
+    first_of (search (rules, of-append, allowance-both, allowance-one, both-hold), grind (arith, nat_tests, of-append, allowance-both, allowance-one, both-hold))

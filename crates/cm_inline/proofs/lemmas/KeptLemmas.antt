@@ -1,23 +1,17 @@
 -- Segments stay where only other runs are written to, and pairs are added.
-use Rattle.std.proofs.Common.{◌≡◌, ◌⊎◌, ℕ, ◌+◌, ◌<◌, ◌≤◌, List, [], ◌∷◌, ◌++◌, length, take, drop, reverse, get_or, refl, sym, ap, subst, ◌∙◌, arith, append-nil, append_assoc, length-append}
-use Rattle.std.proofs.lemmas.List.{reverse-append, take-append-le, length-reverse}
+use Rattle.cm_inline.proofs.lemmas.Words.{◌≡◌, ◌⊎◌, ℕ, ◌+◌, ◌<◌, ◌≤◌, List, [], ◌∷◌, ◌++◌, length, take, drop, reverse, get_or, refl, ap, subst, ◌∙◌, arith}
+use Rattle.cm_inline.proofs.lemmas.Words.{append-nil, append_assoc, length-append, reverse-append, take-append-le, length-reverse, rules, nat_tests}
 use Rattle.cm_inline.specs.steps.pairing.ClosingRuns.{AreUnder, State}
-use Rattle.cm_inline.specs.steps.pairing.Events.{Event, Text, Rest, Whole, Start, End}
-use Rattle.cm_inline.specs.steps.pairing.Parts.{Pair, PairedRun, Part, Numbered, Known, chain, starts, ends, ends_between, no_run, run_events, events_of, Rising, HaveNoRun, AreParts}
+use Rattle.cm_inline.specs.steps.pairing.Events.{Event, Rest}
+use Rattle.cm_inline.specs.steps.pairing.Parts.{Pair, PairedRun, Part, Numbered, Known, chain, ends, no_run, run_events, events_of, Rising, AreParts, starts, ends_between}
 use Rattle.cm_inline.specs.steps.pairing.Passes.{number_after}
-use Rattle.cm_inline.specs.steps.pairing.Readings.{StandFor}
 use Rattle.cm_inline.specs.steps.pairing.Segments.{Segment, Waiting, Made, all_parts, numbers_in, AreSegments}
 use Rattle.cm_inline.specs.steps.pairing.States.{Grows}
 use Rattle.cm_inline.proofs.lemmas.ClosingLemmas.{parts-append}
-use Rattle.cm_inline.proofs.lemmas.PartLemmas.{ends-none, chain-none, chain-stays, rising-once}
+use Rattle.cm_inline.proofs.lemmas.PartLemmas.{chain-stays, rising-once, AreSuch, AllOf, such-parts, under-all}
 use Rattle.cm_inline.proofs.lemmas.PassLemmas.{rising-behind-of}
 
--- the numbers of parts, and of segments, are such
-abbrev pub AllOf : (ℕ → Type 0) → List Part → Type 0
-AllOf P [] = Unit {0}
-AllOf P (Numbered k ∷ ms) = P k × AllOf P ms
-AllOf P (Known fs ∷ ms) = AllOf P ms
-
+-- the numbers of segments are such
 abbrev pub AllIn : (ℕ → Type 0) → List Segment → Type 0
 AllIn P [] = Unit {0}
 AllIn P (Waiting k run ∷ ss) = P k × AllIn P ss
@@ -46,50 +40,37 @@ run-kept pairs added k r opened to =
 pub events-kept : (P : ℕ → Type 0) (runs now : List PairedRun) (pairs added : List Pair) (ms : List Part) → ((k : ℕ) → P k → get_or now k no_run ≡ get_or runs k no_run) → AllOf P ms → AreParts runs pairs ms → events_of now (pairs ++ added) ms ≡ events_of runs pairs ms
 unfolding events_of
 events-kept P runs now pairs added [] same a h = refl
-events-kept P runs now pairs added (Numbered k ∷ ms) same a h =
-    ap (λ r. run_events (pairs ++ added) k r ++ events_of now (pairs ++ added) ms) (same k a.0)
-    ∙ ap (λ t. t ++ events_of now (pairs ++ added) ms) (run-kept pairs added k (get_or runs k no_run) h.1 h.2)
-    ∙ ap (λ t. run_events pairs k (get_or runs k no_run) ++ t) (events-kept P runs now pairs added ms same a.1 h.3)
+events-kept P runs now pairs added (Numbered k ∷ ms) same a h = search (rules, run-kept, (events-kept P runs now pairs added ms same a.1 h.3))
 events-kept P runs now pairs added (Known fs ∷ ms) same a h = ap (λ t. fs ++ t) (events-kept P runs now pairs added ms same a h.1)
 
 pub all-kept : (P : ℕ → Type 0) (runs now : List PairedRun) (pairs added : List Pair) (ms : List Part) → length runs ≤ length now → ((k : ℕ) → P k → get_or now k no_run ≡ get_or runs k no_run) → AllOf P ms → AreParts runs pairs ms → AreParts now (pairs ++ added) ms
 all-kept P runs now pairs added [] long same a h = tt
-all-kept P runs now pairs added (Numbered k ∷ ms) long same a h =
-    let is = same k a.0 in
-    (omega (arith, h.0, long), omega (arith, h.1, ap (λ (r : PairedRun). r.opened) is, length-append pairs added), omega (arith, h.2, ap (λ (r : PairedRun). r.to) is, length-append pairs added), all-kept P runs now pairs added ms long same a.1 h.3)
+all-kept P runs now pairs added (Numbered k ∷ ms) long same a h = grind (arith, nat_tests, length-append, (all-kept P runs now pairs added ms long same a.1 h.3))
 all-kept P runs now pairs added (Known fs ∷ ms) long same a h = (h.0, all-kept P runs now pairs added ms long same a h.1)
 
 pub segments-kept : (P : ℕ → Type 0) (low : ℕ) (runs now : List PairedRun) (pairs added : List Pair) (ss : List Segment) → length runs ≤ length now → ((k : ℕ) → P k → get_or now k no_run ≡ get_or runs k no_run) → AllIn P ss → AreSegments runs pairs low ss
     → AreSegments now (pairs ++ added) low ss
 segments-kept P low runs now pairs added [] long same a h = tt
 segments-kept P low runs now pairs added (Waiting k run ∷ ss) long same a h = (h.0, omega (arith, h.1, long), same k a.0 ∙ h.2, segments-kept P (k + 1) runs now pairs added ss long same a.1 h.3)
-segments-kept P low runs now pairs added (Made parts item high ∷ ss) long same a h =
-    let m = h.0 in
-    let is = events-kept P runs now pairs added parts same a.0 m.marked in (
-      record { means = subst (λ fs. StandFor fs (item ∷ [])) (sym is) m.means; other = m.other; marked = all-kept P runs now pairs added parts long same a.0 m.marked; rising = subst (Rising low) (sym is) m.rising; under = m.under; high_is = m.high_is },
-      segments-kept P high runs now pairs added ss long same a.1 h.1,
-    )
+segments-kept P low runs now pairs added (Made parts item high ∷ ss) long same a h = search (rules, events-kept, all-kept, (segments-kept P high runs now pairs added ss long same a.1 h.1))
 
 pub segments-more : (P : ℕ → Type 0) (low : ℕ) (runs now : List PairedRun) (pairs : List Pair) (ss : List Segment) → length runs ≤ length now → ((k : ℕ) → P k → get_or now k no_run ≡ get_or runs k no_run) → AllIn P ss → AreSegments runs pairs low ss → AreSegments now pairs low ss
 segments-more P low runs now pairs ss long same a h = subst (λ ps. AreSegments now ps low ss) (append-nil pairs) (segments-kept P low runs now pairs [] ss long same a h)
 
 pub segments-grow : (P : ℕ → Type 0) (low high from : ℕ) (old new : State) (ss : List Segment) → Grows low high old new → ((k : ℕ) → P k → (k < low) ⊎ (high ≤ k)) → AllIn P ss → AreSegments old.runs old.pairs from ss → AreSegments new.runs new.pairs from ss
-segments-grow P low high from old new ss g out a h =
-    subst (λ ps. AreSegments new.runs ps from ss) (sym g.pairs) (segments-kept P from old.runs new.runs old.pairs g.added ss (omega (arith, g.long)) (λ k p. g.others k (out k p)) a h)
+segments-grow P low high from old new ss g out a h = search (rules, segments-kept)
 
 -- and so do their events
 
-segments-parts : (low : ℕ) (runs : List PairedRun) (pairs : List Pair) (ss : List Segment) → AreSegments runs pairs low ss → AreParts runs pairs (all_parts ss)
+pub segments-parts : (low : ℕ) (runs : List PairedRun) (pairs : List Pair) (ss : List Segment) → AreSegments runs pairs low ss → AreParts runs pairs (all_parts ss)
 unfolding all_parts
 segments-parts low runs pairs [] h = tt
-segments-parts low runs pairs (Waiting k run ∷ ss) h =
-    (h.1, omega (arith, ap (λ (r : PairedRun). r.opened) h.2), omega (arith, ap (λ (r : PairedRun). r.to) h.2), segments-parts (k + 1) runs pairs ss h.3)
+segments-parts low runs pairs (Waiting k run ∷ ss) h = search (rules, (segments-parts (k + 1) runs pairs ss h.3))
 segments-parts low runs pairs (Made parts item high ∷ ss) h = parts-append runs pairs parts (all_parts ss) h.0.marked (segments-parts high runs pairs ss h.1)
 
 pub segments-same : (P : ℕ → Type 0) (low high from : ℕ) (old new : State) (ss : List Segment) → Grows low high old new → ((k : ℕ) → P k → (k < low) ⊎ (high ≤ k)) → AllIn P ss → AreSegments old.runs old.pairs from ss
     → events_of new.runs new.pairs (all_parts ss) ≡ events_of old.runs old.pairs (all_parts ss)
-segments-same P low high from old new ss g out a h =
-    ap (λ ps. events_of new.runs ps (all_parts ss)) g.pairs ∙ events-kept P old.runs new.runs old.pairs g.added (all_parts ss) (λ k p. g.others k (out k p)) (all-parts P ss a) (segments-parts from old.runs old.pairs ss h)
+segments-same P low high from old new ss g out a h = search (rules, events-kept, all-parts, segments-parts)
 
 -- the numbers of segments are from the one on that they begin with, and below the one behind them
 
@@ -113,11 +94,6 @@ unfolding number_after
 behind-after low runs pairs [] g = omega arith
 behind-after low runs pairs (Waiting k run ∷ ss) g = omega (arith, g.0, behind-after (k + 1) runs pairs ss g.3)
 behind-after low runs pairs (Made parts item high ∷ ss) g = omega (arith, g.0.high_is, behind-after high runs pairs ss g.1)
-
-under-all : (n m : ℕ) (ms : List Part) → n ≤ m → AreUnder n ms → AllOf (λ k. k < m) ms
-under-all n m [] p h = tt
-under-all n m (Numbered k ∷ ms) p h = (omega (arith, h.0, p), under-all n m ms p h.1)
-under-all n m (Known fs ∷ ms) p h = under-all n m ms p h
 
 pub segments-under : (m low : ℕ) (runs : List PairedRun) (pairs : List Pair) (ss : List Segment) → number_after low ss ≤ m → AreSegments runs pairs low ss → AllIn (λ k. k < m) ss
 unfolding number_after
@@ -145,47 +121,15 @@ first-waits low n ns runs pairs (Made parts item high ∷ ss) g e = omega (arith
 -- events whose runs are of numbers from one on rise from it on
 
 abbrev Highs : ℕ → List Event → Type 0
-Highs n [] = Unit {0}
-Highs n (Rest k r ∷ fs) = (n ≤ k) × Highs n fs
-Highs n (f ∷ fs) = Highs n fs
+Highs n fs = AreSuch (λ k r. n ≤ k) fs
 
 raise : (n low : ℕ) (fs : List Event) → Highs n fs → Rising low fs → Rising n fs
 raise n low [] h r = tt
 raise n low (Rest k q ∷ fs) h r = (h.0, r.1)
-raise n low (Text t ∷ fs) h r = raise n low fs h r
-raise n low (Whole t ∷ fs) h r = raise n low fs h r
-raise n low (Start t ∷ fs) h r = raise n low fs h r
-raise n low (End t ∷ fs) h r = raise n low fs h r
-
-highs-append : (n : ℕ) (fs gs : List Event) → Highs n fs → Highs n gs → Highs n (fs ++ gs)
-highs-append n [] gs h g = g
-highs-append n (Rest k q ∷ fs) gs h g = (h.0, highs-append n fs gs h.1 g)
-highs-append n (Text t ∷ fs) gs h g = highs-append n fs gs h g
-highs-append n (Whole t ∷ fs) gs h g = highs-append n fs gs h g
-highs-append n (Start t ∷ fs) gs h g = highs-append n fs gs h g
-highs-append n (End t ∷ fs) gs h g = highs-append n fs gs h g
-
-highs-none : (n : ℕ) (fs : List Event) → HaveNoRun fs → Highs n fs
-highs-none n [] h = tt
-highs-none n (Rest k r ∷ fs) h = absurd h.0
-highs-none n (Text t ∷ fs) h = highs-none n fs h.1
-highs-none n (Whole t ∷ fs) h = highs-none n fs h.1
-highs-none n (Start t ∷ fs) h = highs-none n fs h.1
-highs-none n (End t ∷ fs) h = highs-none n fs h.1
-
-highs-parts : (n : ℕ) (runs : List PairedRun) (pairs : List Pair) (ms : List Part) → AllOf (λ k. n ≤ k) ms → AreParts runs pairs ms → Highs n (events_of runs pairs ms)
-unfolding events_of
-highs-parts n runs pairs [] a h = tt
-highs-parts n runs pairs (Numbered k ∷ ms) a h =
-    let r = get_or runs k no_run in
-    highs-append n (run_events pairs k r) (events_of runs pairs ms)
-    (highs-append n (ends (drop r.from (take r.to pairs))) (Rest k r.run ∷ chain (reverse pairs) r.opened) (highs-none n (ends (drop r.from (take r.to pairs))) (ends-none (drop r.from (take r.to pairs))))
-    (a.0, highs-none n (chain (reverse pairs) r.opened) (chain-none (reverse pairs) r.opened)))
-    (highs-parts n runs pairs ms a.1 h.3)
-highs-parts n runs pairs (Known fs ∷ ms) a h = highs-append n fs (events_of runs pairs ms) (highs-none n fs h.0) (highs-parts n runs pairs ms a h.1)
+raise n low (_ ∷ fs) h r = raise n low fs h r
 
 pub rising-raised : (n low : ℕ) (runs : List PairedRun) (pairs : List Pair) (ms : List Part) → AllOf (λ k. n ≤ k) ms → AreParts runs pairs ms → Rising low (events_of runs pairs ms) → Rising n (events_of runs pairs ms)
-rising-raised n low runs pairs ms a h r = raise n low (events_of runs pairs ms) (highs-parts n runs pairs ms a h) r
+rising-raised n low runs pairs ms a h r = raise n low (events_of runs pairs ms) (such-parts (λ k r. n ≤ k) runs pairs ms a h) r
 
 pub parts-under : (runs : List PairedRun) (pairs : List Pair) (ms : List Part) → AreParts runs pairs ms → AreUnder (length runs) ms
 parts-under runs pairs [] h = tt

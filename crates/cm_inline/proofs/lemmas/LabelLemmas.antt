@@ -1,19 +1,15 @@
 -- A label between two brackets, with more text after them and without.
-use Rattle.std.proofs.Common.{◌≡◌, ◌≢◌, ℕ, ◌<◌, ◌≤◌, ◌==◌, ◌&&◌, not, cond, Bool, true, false, List, [], ◌∷◌, ◌++◌, length, Option, Some, None, IfSome, refl, sym, ap, ap₂, subst, ◌∙◌, arith}
-use Rattle.std.specs.Prelude.{nat_le}
-use Rattle.std.specs.List.{list_all}
-use Rattle.std.proofs.lemmas.Bool.{and_parts, le-leb}
-use Rattle.std.proofs.lemmas.Bool.Decides.{nat_tests}
+use Rattle.cm_inline.proofs.lemmas.Words.{◌≡◌, ◌≢◌, ℕ, ◌<◌, ◌≤◌, ◌==◌, not, cond, Bool, true, false, List, [], ◌∷◌, ◌++◌, length, Option, Some, None, IfSome, refl}
+use Rattle.cm_inline.proofs.lemmas.Words.{sym, ap, subst, ◌∙◌, arith, list_all, and_parts, le-leb, nat_tests, sum_by-cons, is_empty, Reading, behind, label, Target}
+use Rattle.cm_inline.proofs.lemmas.Words.{Defined, target_of, target_between}
+use Rattle.std.proofs.Common.{ap₂}
 use Rattle.std.proofs.lemmas.List.{length-append}
-use Rattle.std.proofs.lemmas.List.Sums.{sum_by-cons}
-use Rattle.cm_text.specs.Characters.{within, is_ascii_punct}
+use Rattle.cm_text.specs.Characters.{within}
 use Rattle.cm_text.specs.Labels.{is_gap}
 use Rattle.cm_text.specs.steps.LabelSteps.{is_bracketing, is_bare}
 use Rattle.cm_scan.specs.spans.Tags.{is_blank_byte}
-use Rattle.cm_scan.specs.Words.{is_empty, given}
-use Rattle.cm_scan.specs.inlines.Links.{Reading, behind, keep_if, escapes_next, up_to_closing, characters, is_label, label}
-use Rattle.cm_tree.specs.Definitions.{Target}
-use Rattle.cm_scan.specs.inlines.Brackets.{Defined, target_of, target_between}
+use Rattle.cm_scan.specs.Words.{given}
+use Rattle.cm_scan.specs.inlines.Links.{keep_if, escapes_next, up_to_closing, characters, is_label}
 use Rattle.cm_scan.proofs.lemmas.links.BracketedParts.{ahead}
 
 -- up to the first right bracket that nothing escapes
@@ -37,8 +33,7 @@ escapes-same b [] more = refl
 escapes-same b (c ∷ cs) more = refl
 
 behind-ahead : (b : ℕ) (front : List ℕ) (o : Option Reading) → behind b (ahead front o) ≡ ahead (b ∷ front) o
-behind-ahead b front None = refl
-behind-ahead b front (Some r) = refl
+behind-ahead b front o = grind (arith, nat_tests)
 
 -- a byte that is skipped
 passed : (escaped mark : Bool) (b : ℕ) (bs : List ℕ) → ((more : List ℕ) → inside_of escaped (closing (b ∷ bs) more) ≡ behind b (inside_of mark (closing bs more)))
@@ -65,8 +60,7 @@ unfolding up_to_closing
 escaped-here b bs = refl
 
 behind-one : (b : ℕ) (o : Option Reading) → behind b o ≡ ahead (b ∷ []) o
-behind-one b None = refl
-behind-one b (Some r) = refl
+behind-one b o = grind (arith, nat_tests)
 
 where_it_ends : (escaped : Bool) (between : List ℕ) → Ends escaped between
 where_it_ends true [] = beyond (λ more. escaped-here 93 more ∙ behind-one 93 (inside_of false more))
@@ -82,8 +76,7 @@ where_it_ends false (b ∷ bs) = go (b == 93) (b == 91) refl refl (where_it_ends
 
 -- what is left after a right bracket is less than the text
 less-behind : (b : ℕ) (bs : List ℕ) (o : Option Reading) → IfSome o (λ r. length r.rest < length bs) → IfSome (behind b o) (λ r. length r.rest < length (b ∷ bs))
-less-behind b bs None h = tt
-less-behind b bs (Some r) h = omega (arith, h)
+less-behind b bs o h = grind (arith, nat_tests)
 
 less-left : (escaped : Bool) (text : List ℕ) → IfSome (inside_of escaped text) (λ r. length r.rest < length text)
 unfolding up_to_closing
@@ -117,16 +110,10 @@ target-by defined between read h = ap (found_by defined between) h
 
 -- what is kept was read, and is a label
 kept : (o : Option Reading) (r : Reading) → keep_if is_label o ≡ Some r → (o ≡ Some r) × (is_label r ≡ true)
-kept None r h = absurd (cc)
-kept (Some s) r h = go (is_label s) refl h
-  where
-    go : (b : Bool) → is_label s ≡ b → given b s ≡ Some r → (Some s ≡ Some r) × (is_label r ≡ true)
-    go true e h = (h, let same : s ≡ r = cc in sym (ap (λ (t : Reading). is_label t) same) ∙ e)
-    go false e h = absurd (cc)
+kept o r h = grind (arith, nat_tests)
 
 ahead-less : (n : ℕ) (front : List ℕ) (o : Option Reading) (r : Reading) → IfSome o (λ t. length t.rest < n) → ahead front o ≡ Some r → length r.rest < n
-ahead-less n front None r less h = absurd (cc)
-ahead-less n front (Some t) r less h = let same : t.rest ≡ r.rest = ap (λ (o : Option Reading). elim o as (λ _. List ℕ) [ None ↦ [] | Some q ↦ q.rest ]) h in omega (arith, less, ap length same)
+ahead-less n front o r less h = grind (arith, nat_tests)
 
 -- A label that ends with the bracket after the part between is the part itself, and has its target.
 pub label_between : (defined : Defined) (between rest : List ℕ) (r : Reading) → label (91 ∷ closing between rest) ≡ Some r → length r.rest ≡ length rest
@@ -193,8 +180,7 @@ bare-byte : (b : ℕ) → not (is_bracketing b) ≡ true → ((b == 93) ≡ fals
 bare-byte b h = (grind (arith, nat_tests, h), grind (arith, nat_tests, h), grind (arith, nat_tests, h))
 
 escapes-nothing : (b : ℕ) (bs : List ℕ) → (b == 92) ≡ false → escapes_next b bs ≡ false
-escapes-nothing b [] h = refl
-escapes-nothing b (c ∷ cs) h = ap (λ t. t && is_ascii_punct c) h
+escapes-nothing b bs h = grind (arith, nat_tests)
 
 bare_inside : (between : List ℕ) → list_all (λ b. not (is_bracketing b)) between ≡ true → inside_of false (closing between []) ≡ Some (record { text = between; rest = [] })
 bare_inside [] h = closes-here 93 [] refl
@@ -218,11 +204,4 @@ no_blank b h = grind (arith, nat_tests, h)
 
 -- A bare text that is short is a label, and has its target.
 pub bare_between : (defined : Defined) (between : List ℕ) → is_bare between ≡ true → length between ≤ 999 → target_between defined between ≡ target_of defined between
-bare_between defined [] bare short = absurd (cc)
-bare_between defined (b ∷ bs) bare short =
-    let here : Reading = record { text = b ∷ bs; rest = [] } in
-    let parts = and_parts (not (is_gap b)) (list_all (λ c. not (is_bracketing c)) (b ∷ bs)) bare in
-    let few : nat_le (characters (b ∷ bs)) 999 ≡ true = le-leb (characters (b ∷ bs)) 999 (omega (arith, short, fewer-characters (b ∷ bs))) in
-    let filled : not (list_all is_blank_byte (b ∷ bs)) ≡ true = ap (λ t. not (t && list_all is_blank_byte bs)) (no_blank b parts.0) in
-    target-by defined (b ∷ bs) (Some here)
-    (label-of (closing (b ∷ bs) []) (Some here) (bare_inside (b ∷ bs) parts.1) ∙ ap (λ t. given t here) (ap₂ ◌&&◌ few filled))
+bare_between defined between bare short = grind (arith, nat_tests, and_parts, le-leb, fewer-characters, no_blank, target-by, label-of, bare_inside, ap₂)

@@ -1,27 +1,17 @@
 -- Marks of a source as parts and events: one of them, and those after it.
-use Rattle.std.proofs.Common.{◌≡◌, ℕ, zero, suc, ◌+◌, ◌<◌, Bool, List, [], ◌∷◌, ◌++◌, length, drop, get_or, map, refl, sym, ap, ◌∙◌, arith, add-one, append_assoc}
-use Rattle.std.specs.List.{slice_range}
-use Rattle.cm_tree.specs.Definitions.{Targets}
-use Rattle.cm_inline.specs.declared.marks.Mark.{Mark}
-use Rattle.cm_inline.specs.declared.brackets.Link.{Link}
-use Rattle.cm_inline.specs.declared.brackets.Reader.{Reader}
+use Rattle.cm_inline.proofs.lemmas.Words.{◌≡◌, ℕ, zero, suc, ◌+◌, ◌<◌, Bool, List, [], ◌∷◌, ◌++◌, length, drop, refl, arith, add-one, append_assoc, slice_range}
+use Rattle.cm_inline.proofs.lemmas.Words.{Targets, Mark, Link, Reader, rules}
 use Rattle.cm_inline.specs.declared.runs.Run as held
-use Rattle.cm_inline.specs.steps.pairing.Parts.{Pair, PairedRun, Part, part_events, events_of}
-use Rattle.cm_inline.specs.steps.Marks.{part_of, texts, parts_between, IsOfKind, AreLaid, IsSettled}
+use Rattle.cm_inline.specs.steps.pairing.Parts.{Pair, PairedRun, Part, events_of}
+use Rattle.cm_inline.specs.steps.Marks.{texts, parts_between, IsOfKind, AreLaid, IsSettled, part_of}
 use Rattle.cm_inline.specs.steps.Runs.{runs_in, pairs_in}
 use Rattle.cm_inline.specs.steps.Standalone.{IsBetween}
 use Rattle.cm_inline.specs.steps.Writing.{mark_numbered, mark_events, events_from, IsMarkIn}
 
-pub get_or-map : {A B : Type 0} (f : A → B) (xs : List A) (n : ℕ) (a : A) (b : B) → n < length xs → get_or (map f xs) n b ≡ f (get_or xs n a)
-get_or-map f [] n a b h = absurd (omega (arith, h))
-get_or-map f (x ∷ xs) zero a b h = refl
-get_or-map f (x ∷ xs) (suc n) a b h = get_or-map f xs n a b (omega (arith, h))
-
 pub events-append : (runs : List PairedRun) (pairs : List Pair) (ms ns : List Part) → events_of runs pairs (ms ++ ns) ≡ events_of runs pairs ms ++ events_of runs pairs ns
 unfolding events_of
 events-append runs pairs [] ns = refl
-events-append runs pairs (m ∷ ms) ns =
-    ap (λ t. part_events runs pairs m ++ t) (events-append runs pairs ms ns) ∙ sym (append_assoc (part_events runs pairs m) (events_of runs pairs ms) (events_of runs pairs ns))
+events-append runs pairs (m ∷ ms) ns = search (rules, append_assoc, (events-append runs pairs ms ns))
 
 -- the text before a mark, the mark, and what follows it
 pub events-next : (source : List ℕ) (targets : Targets) (reader : Reader) (from : ℕ) (m : Mark) (ms : List Mark)
@@ -52,11 +42,7 @@ laid-at lines source targets runs links from to (m ∷ ms) (suc n) h laid = laid
 pub settled-mark : (lines : Bool) (source : List ℕ) (targets : Targets) (reader : Reader) (n : ℕ) → n < length reader.marks.items → IsSettled lines source targets reader → IsMarkIn source targets reader (mark_numbered reader.marks.items n)
 settled-mark lines source targets reader n h settled =
     let at = laid-at lines source targets reader.runs.runs.items reader.links.items 0 (length source) reader.marks.items n h settled.laid in
-    record {
-      between = at.between;
-      kind = at.kind;
-      chained = settled.chained;
-    }
+    search rules
 
 pub settled-behind : (lines : Bool) (source : List ℕ) (targets : Targets) (reader : Reader) (n : ℕ) → n < length reader.marks.items → IsSettled lines source targets reader
     → AreLaid lines source targets reader.runs.runs.items reader.links.items (mark_numbered reader.marks.items n).end (length source) (drop (n + 1) reader.marks.items)

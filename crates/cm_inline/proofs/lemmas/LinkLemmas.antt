@@ -1,19 +1,15 @@
 -- What follows the right bracket of a link or an image, by what comes next in the source.
-use Rattle.std.proofs.Common.{◌≡◌, ◌≢◌, ℕ, suc, ◌+◌, ◌<◌, ◌≤◌, ◌==◌, Bool, true, false, List, [], ◌∷◌, ◌++◌, length, drop, get_or, Option, Some, None, option_map, Result, Ok, Err, IfOk, IfSome, codes, if◌then◌else◌, refl, sym, ap, subst, ◌∙◌, arith, length-append, length-drop}
-use Rattle.std.specs.List.{slice_range}
-use Rattle.std.specs.Str.{IsCharBoundary}
-use Rattle.std.proofs.lemmas.List.{drop_more}
-use Rattle.cm_text.specs.Rules.{Rules}
-use Rattle.cm_text.specs.Addresses.{is_followed}
-use Rattle.cm_text.specs.Unescaping.{unescape}
-use Rattle.cm_tree.specs.Definitions.{Target, target_numbered, target_if_followed}
+use Rattle.cm_inline.proofs.lemmas.Words.{◌≡◌, ◌≢◌, ℕ, suc, ◌+◌, ◌<◌, ◌≤◌, ◌==◌, Bool, true, false, List, [], ◌∷◌, ◌++◌, length, drop, get_or, Option, Some, None}
+use Rattle.cm_inline.proofs.lemmas.Words.{IfSome, codes, refl, sym, ap, subst, ◌∙◌, arith, length-append, length-drop, slice_range, IsCharBoundary, drop_more, Rules}
+use Rattle.cm_inline.proofs.lemmas.Words.{Target, begins_with, after_word, Reading, label, Defined, target_of, target_between, end_if_followed, end_at, begins-at}
+use Rattle.cm_inline.proofs.lemmas.Words.{nat_tests, rules}
+use Rattle.std.proofs.Common.{option_map, Result, IfOk, if◌then◌else◌}
+use Rattle.cm_tree.specs.Definitions.{target_if_followed, target_numbered}
 use Rattle.cm_scan.specs.Scanned.{IsAt}
-use Rattle.cm_scan.specs.Words.{begins_with, after_word}
 use Rattle.cm_scan.specs.spans.Tags.{is_blank_next, after_gap}
-use Rattle.cm_scan.specs.inlines.Links.{Reading, label, destination, title}
+use Rattle.cm_scan.specs.inlines.Links.{destination, title}
 use Rattle.cm_scan.specs.inlines.Brackets as brackets
-use Rattle.cm_scan.specs.inlines.Brackets.{Defined, closed, after_destination, inline_end, target_of, target_between, collapsed_or_shortcut, reference_end, end_if_followed, end_at}
-use Rattle.cm_scan.proofs.lemmas.texts.ScannerAnswers.{begins-at}
+use Rattle.cm_scan.specs.inlines.Brackets.{closed, after_destination, inline_end, collapsed_or_shortcut, reference_end}
 use Rattle.cm_scan.proofs.lemmas.inlines.LeftByEachStep.{end_at-end}
 use Rattle.cm_inline.specs.declared.leaf.Leaf.{Leaf}
 use Rattle.cm_inline.specs.declared.links.LinkEnd.{LinkEnd}
@@ -24,6 +20,8 @@ use Rattle.cm_inline.specs.steps.Leaves.{defined_by}
 use Rattle.cm_inline.specs.steps.Links.{ends_of, leads_to, after_brackets, IsPlaced}
 use Rattle.cm_inline.proofs.lemmas.SliceLemmas.{slice-front}
 use Rattle.cm_inline.proofs.lemmas.LabelLemmas.{label_between, no_label_between}
+use Rattle.cm_text.specs.Addresses.{is_followed}
+use Rattle.cm_text.specs.Unescaping.{unescape}
 
 -- The next byte
 
@@ -40,8 +38,7 @@ word-by b word c cs next h = ap (λ v. if_next v word cs) h
 
 word-none : (b : ℕ) (word text : List ℕ) → begins_with b text ≡ false → after_word (b ∷ word) text ≡ None
 unfolding after_word
-word-none b word [] h = refl
-word-none b word (c ∷ cs) h = word-by b word c cs false h
+word-none b word text h = grind (arith, nat_tests, word-by)
 
 word-next : (b : ℕ) (word text : List ℕ) (at : ℕ) → begins_with b (drop at text) ≡ true → after_word (b ∷ word) (drop at text) ≡ after_word word (drop (at + 1) text)
 word-next b word text at h =
@@ -119,13 +116,7 @@ without text o = elim o [ Some rest ↦ rest | None ↦ text ]
 
 -- by the two brackets that follow, or by what follows
 not-full : (target : Option Target) (text : List ℕ) → collapsed_or_shortcut target text ≡ leads_to target (after_brackets text)
-not-full None text = refl
-not-full (Some target) text = go (after_word (codes "[]") text)
-  where
-    go : (o : Option (List ℕ)) → elim o as (λ _. Option brackets.LinkEnd) [ Some rest ↦ Some (brackets.link_end target rest) | None ↦ Some (brackets.link_end target text) ]
-        ≡ Some (brackets.link_end target (without text o))
-    go (Some rest) = refl
-    go None = refl
+not-full target text = grind (arith, nat_tests)
 
 pub by-between : (defined : Defined) (between text : List ℕ) (target : Option Target) → None ≡ label text → target ≡ target_between defined between
     → reference_end defined between text ≡ leads_to target (after_brackets text)
@@ -182,25 +173,14 @@ module _ (rules : Rules) (leaf : Leaf) (end : ℕ) where
   by_number entry = option_map (λ number. record { target = written.Defined number; end = end }) entry
 
   number-leads : (entry : Option ℕ) → ends_of leaf (by_number entry) ≡ leads_to (option_map (target_numbered leaf.definitions.now) entry) (drop end leaf.source.now)
-  number-leads None = refl
-  number-leads (Some number) = refl
+  number-leads entry = grind (arith, nat_tests)
 
   leads-followed : (target : Option Target) (rest : List ℕ) → leads_to (target_if_followed rules target) rest ≡ end_if_followed rules (leads_to target rest)
-  leads-followed None rest = refl
-  leads-followed (Some target) rest = go (is_followed rules target.0)
-    where
-      go : (on : Bool) → leads_to (elim on as (λ _. Option Target) [ true ↦ Some target | false ↦ None ]) rest
-          ≡ elim on as (λ _. Option brackets.LinkEnd) [ true ↦ Some (brackets.link_end target rest) | false ↦ None ]
-      go true = refl
-      go false = refl
+  leads-followed target rest = grind (arith, nat_tests)
 
   pub numbered-end : (target : Option Target) (entry : Option ℕ) → option_map (target_numbered leaf.definitions.now) entry ≡ target_if_followed rules target
       → ends_of leaf (by_number entry) ≡ end_if_followed rules (leads_to target (drop end leaf.source.now))
   numbered-end target entry h = number-leads entry ∙ ap (λ o. leads_to o (drop end leaf.source.now)) h ∙ leads-followed target (drop end leaf.source.now)
-
-  pub numbered-placed : (entry : Option ℕ) → IsCharBoundary leaf.source.now end → IfSome entry (λ number. number < length leaf.definitions.now) → IfSome (by_number entry) (IsPlaced leaf)
-  numbered-placed None boundary within = tt
-  numbered-placed (Some number) boundary within = (boundary, within)
 
 -- The whole
 
@@ -222,9 +202,7 @@ module _ (rules : Rules) (leaf : Leaf) where
   pub placed : {E : Type 0} (at : ℕ) (between : List ℕ) (r : Result (Option LinkEnd) E) → at < length leaf.source.now
       → IfOk r (λ found. ends_of leaf found ≡ end_at rules (defined_by leaf) between (drop (at + 1) leaf.source.now)) → IfOk r (λ found. IfSome found (IsPlaced leaf))
       → IfOk r (λ found. IfSome found (λ e. (at < e.end) × IsPlaced leaf e))
-  placed at between (Ok None) within h place = tt
-  placed at between (Ok (Some e)) within h place = (ends-behind at between e within h place.0, place)
-  placed at between (Err f) within h place = tt
+  placed at between r within h place = grind (arith, nat_tests, ends-behind)
 
   abbrev first_of : List ℕ → List ℕ → Option brackets.LinkEnd → Option brackets.LinkEnd
   first_of between text o = elim o [ Some end ↦ Some end | None ↦ end_if_followed rules (reference_end (defined_by leaf) between text) ]

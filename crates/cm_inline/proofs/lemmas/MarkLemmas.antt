@@ -1,36 +1,26 @@
 -- What one mark writes, among tags and in an alternative text.
-use Rattle.std.proofs.Common.{◌≡◌, ℕ, zero, suc, ◌+◌, ◌-◌, ◌<◌, ◌==◌, Bool, true, false, cond, List, [], ◌∷◌, ◌++◌, length, take, drop, get_or, map, reverse, codes, refl, sym, ap, subst, ◌∙◌, arith}
-use Rattle.std.specs.Prelude.{replicate, encode_utf8, if◌then◌else◌}
-use Rattle.std.specs.List.{slice_range}
-use Rattle.std.proofs.lemmas.Bool.{cond-false}
-use Rattle.std.proofs.lemmas.List.{append-nil, take-map, get_or-take, get_or-drop, get_or_read}
-use Rattle.cm_tree.specs.Definitions.{Targets}
-use Rattle.cm_tree.specs.declared.tree.Inline.TheFolds.{fold_out-Inline}
+use Rattle.cm_inline.proofs.lemmas.Words.{◌≡◌, ℕ, zero, suc, ◌+◌, ◌-◌, ◌<◌, Bool, true, false, cond, List, [], ◌∷◌, ◌++◌, take, drop, get_or, codes, refl, sym, ap}
+use Rattle.cm_inline.proofs.lemmas.Words.{subst, ◌∙◌, arith, encode_utf8, if◌then◌else◌, slice_range, cond-false, get_or-take, get_or_read, get_or-map, Targets}
+use Rattle.cm_inline.proofs.lemmas.Words.{fold_out-Inline, escape, Rendered, inline_step, inlines_html, rendered, one_line, Link, Reader, Kind, Mark, Emphasis, rules}
+use Rattle.cm_inline.proofs.lemmas.Words.{nat_tests, ◌==◌}
+use Rattle.std.proofs.lemmas.List.{append-nil, take-map, get_or-drop, drop-map}
 use Rattle.cm_tree.specs.declared.tree.Inline.TheVariants as inlines
-use Rattle.cm_tree.specs.declared.tree.Inline.TheVariants.{outs-Text, outs-Code, outs-Html, outs-Link, outs-Soft, outs-Hard}
-use Rattle.cm_html.specs.Escape.{escape}
-use Rattle.cm_html.specs.Html.{Rendered, inline_step, inlines_html, rendered, code_span_html, link_html}
-use Rattle.cm_scan.specs.spans.CodeSpans.{one_line}
-use Rattle.cm_inline.specs.declared.brackets.Link.{Link}
-use Rattle.cm_inline.specs.declared.brackets.Reader.{Reader}
-use Rattle.cm_inline.specs.declared.marks.Kind.{Kind}
+use Rattle.cm_tree.specs.declared.tree.Inline.TheVariants.{outs-Text, outs-Code, outs-Html, outs-Link, outs-Hard}
+use Rattle.cm_html.specs.Html.{code_span_html, link_html}
 use Rattle.cm_inline.specs.declared.marks.Kind.TheVariants as kinds
-use Rattle.cm_inline.specs.declared.marks.Mark.{Mark}
-use Rattle.cm_inline.specs.declared.runs.Emphasis.{Emphasis}
-use Rattle.cm_inline.specs.declared.runs.Emphasis.TheVariants.{Emph, Strong, Strike}
 use Rattle.cm_inline.specs.declared.runs.Run as held
 use Rattle.cm_inline.specs.declared.runs.Pair as made
-use Rattle.cm_inline.specs.steps.pairing.Events.{Rest, LinkTag, Start}
-use Rattle.cm_inline.specs.steps.pairing.Parts.{Pair, Numbered, chain, starts, ends, ends_between, run_events, part_events, AreParts}
+use Rattle.cm_inline.specs.steps.pairing.Events.{LinkTag, Start}
+use Rattle.cm_inline.specs.steps.pairing.Parts.{Pair, chain, ends, run_events, part_events}
 use Rattle.cm_inline.specs.steps.pairing.Parts as parts
 use Rattle.cm_inline.specs.steps.pairing.Readings.{start_html, end_html, Tags, Alternative, is_number, mode_of, page, write_all}
-use Rattle.cm_inline.specs.steps.Marks.{target_in, link_tag, no_link, part_of_kind, is_escaped, IsOfKind}
-use Rattle.cm_inline.specs.steps.Runs.{byte_of, tag_in, pair_in, pairs_in, paired_run, runs_in, run_of}
+use Rattle.cm_inline.specs.steps.Marks.{link_tag, part_of_kind, is_escaped, IsOfKind, no_link}
+use Rattle.cm_inline.specs.steps.Runs.{byte_of, tag_in, pairs_in, paired_run, runs_in}
 use Rattle.cm_inline.specs.steps.Standalone.{autolink, autolink_html}
 use Rattle.cm_inline.specs.steps.Writing.{Adds, mark_events, mode_after, is_end_of, IsNumbered, IsLinked, IsMarkIn}
 use Rattle.cm_inline.proofs.lemmas.HtmlLemmas.{run-html, text-html}
-use Rattle.cm_inline.proofs.lemmas.LaidLemmas.{get_or-map}
 use Rattle.cm_inline.proofs.lemmas.WriteLemmas.{write-append, soft-html, soft-plain}
+use Rattle.std.specs.Prelude.{replicate}
 
 -- what is written of a mark among tags
 abbrev pub Wrote : List ℕ → Targets → Reader → Mark → (html new : List ℕ) → Type 0
@@ -52,9 +42,7 @@ tags html new text e = ap (λ h. page h Tags) (sym e)
 pub tags-plain : (source : List ℕ) (targets : Targets) (reader : Reader) (mark : Mark) (html new part : List ℕ) → mark.kind ≡ kinds.Plain → IsMarkIn source targets reader mark → part ≡ slice_range source mark.at mark.end → new ≡ html ++ part
     → Wrote source targets reader mark html new
 unfolding write_all
-tags-plain source targets reader mark html new part is m of e =
-    of-kind source targets reader mark html new kinds.Plain is
-    (tags html new (escape (slice_range source mark.at mark.end)) (e ∙ ap (λ t. html ++ t) (of ∙ sym (text-html (slice_range source mark.at mark.end) (known source targets reader mark kinds.Plain is m)))))
+tags-plain source targets reader mark html new part is m of e = search (rules, of-kind, tags, text-html, known)
 
 -- the byte that is escaped
 byte-at : (source : List ℕ) (at end b : ℕ) → slice_range source at end ≡ b ∷ [] → get_or source at 0 ≡ b
@@ -145,18 +133,12 @@ unfolding write_all
 tags-hard source targets reader mark html new is e = of-kind source targets reader mark html new kinds.Hard is (tags html new (rendered inlines.Hard).html (e ∙ ap (λ t. html ++ t) (sym hard-html)))
 
 mode-link : (number : ℕ) (image : Bool) (dest title : List ℕ) → mode_of (LinkTag number image dest title) ≡ cond image (Alternative number) Tags
-mode-link number true dest title = refl
-mode-link number false dest title = refl
+mode-link number image dest title = grind (arith, nat_tests)
 
 pub tags-start : (source : List ℕ) (targets : Targets) (reader : Reader) (mark : Mark) (html new : List ℕ) (number : ℕ) (link : Link) → mark.kind ≡ kinds.Start number → IsMarkIn source targets reader mark → link ≡ get_or reader.links.items number link
     → new ≡ html ++ start_html (link_tag source targets number link) → Wrote source targets reader mark html new
 unfolding write_all
-tags-start source targets reader mark html new number link is m read e =
-    let of : link ≡ get_or reader.links.items number no_link = get_or_read reader.links.items number link (known source targets reader mark (kinds.Start number) is m).known read no_link in
-    let l = get_or reader.links.items number no_link in
-    let target = target_in source targets l.target in
-    of-kind source targets reader mark html new (kinds.Start number) is
-    (ap (λ h. page h (mode_of (link_tag source targets number l))) (ap (λ k. html ++ start_html (link_tag source targets number k)) (sym of) ∙ sym e) ∙ ap (λ m. page new m) (mode-link number l.image target.0 target.1))
+tags-start source targets reader mark html new number link is m read e = search (rules, get_or_read, known, of-kind, mode-link)
 
 pub tags-end : (source : List ℕ) (targets : Targets) (reader : Reader) (mark : Mark) (html new : List ℕ) (number : ℕ) (link : Link) → mark.kind ≡ kinds.End number → IsMarkIn source targets reader mark → link ≡ get_or reader.links.items number link
     → new ≡ html ++ end_html (link_tag source targets number link) → Wrote source targets reader mark html new
@@ -168,38 +150,10 @@ tags-end source targets reader mark html new number link is m read e =
 -- a mark that is written as the text that is there
 
 pub numbered : (source : List ℕ) (targets : Targets) (reader : Reader) (mark : Mark) → IsMarkIn source targets reader mark → IsNumbered reader.runs.runs.items mark.kind
-numbered source targets reader mark m = go mark.kind m.kind
-  where
-    go : (kind : Kind) → IsOfKind source targets reader.runs.runs.items reader.links.items mark.at mark.end kind → IsNumbered reader.runs.runs.items kind
-    go kinds.Plain h = tt
-    go kinds.Escaped h = tt
-    go kinds.Nothing h = tt
-    go (kinds.Character c) h = tt
-    go (kinds.Code from to) h = tt
-    go kinds.Html h = tt
-    go (kinds.Autolink is_address) h = tt
-    go kinds.Soft h = tt
-    go kinds.Hard h = tt
-    go (kinds.Run number) h = h.0
-    go (kinds.Start number) h = tt
-    go (kinds.End number) h = tt
+numbered source targets reader mark m = search rules
 
 pub linked : (source : List ℕ) (targets : Targets) (reader : Reader) (mark : Mark) → IsMarkIn source targets reader mark → IsLinked reader.links.items mark.kind
-linked source targets reader mark m = go mark.kind m.kind
-  where
-    go : (kind : Kind) → IsOfKind source targets reader.runs.runs.items reader.links.items mark.at mark.end kind → IsLinked reader.links.items kind
-    go kinds.Plain h = tt
-    go kinds.Escaped h = tt
-    go kinds.Nothing h = tt
-    go (kinds.Character c) h = tt
-    go (kinds.Code from to) h = tt
-    go kinds.Html h = tt
-    go (kinds.Autolink is_address) h = tt
-    go kinds.Soft h = tt
-    go kinds.Hard h = tt
-    go (kinds.Run number) h = tt
-    go (kinds.Start number) h = h.known
-    go (kinds.End number) h = tt
+linked source targets reader mark m = search rules
 
 -- in an alternative text
 
@@ -294,50 +248,23 @@ alt-end source targets reader mark link html number is other =
     (cond-false (number == link) (page (html ++ end_html (link_tag source targets number l)) Tags) (page html (Alternative link)) (sym (ap (is_end_of link) is) ∙ other))
 
 -- of a run, what is left
-drop-map : {A B : Type 0} (f : A → B) (n : ℕ) (xs : List A) → drop n (map f xs) ≡ map f (drop n xs)
-drop-map f zero xs = refl
-drop-map f (suc n) [] = refl
-drop-map f (suc n) (x ∷ xs) = drop-map f n xs
-
 emphasis-end : (link : ℕ) (emphasis : Emphasis) → is_number link (tag_in emphasis) ≡ false
-emphasis-end link Emph = refl
-emphasis-end link Strong = refl
-emphasis-end link Strike = refl
+emphasis-end link emphasis = grind (arith, nat_tests)
 
 ends-alternative : (link : ℕ) (html : List ℕ) (ps : List made.Pair) → write_all (page html (Alternative link)) (ends (pairs_in ps)) ≡ page html (Alternative link)
 unfolding write_all
 ends-alternative link html [] = refl
-ends-alternative link html (p ∷ ps) =
-    ap (λ q. write_all q (ends (pairs_in ps))) (cond-false (is_number link (tag_in p.emphasis)) (page (html ++ end_html (tag_in p.emphasis)) Tags) (page html (Alternative link)) (emphasis-end link p.emphasis))
-    ∙ ends-alternative link html ps
+ends-alternative link html (p ∷ ps) = search (rules, cond-false, emphasis-end, (ends-alternative link html ps))
 
 chain-alternative : (link : ℕ) (html : List ℕ) (ps : List Pair) (n : ℕ) → write_all (page html (Alternative link)) (chain ps n) ≡ page html (Alternative link)
 unfolding write_all chain
 chain-alternative link html [] n = refl
-chain-alternative link html (p ∷ ps) n = go (n == suc (length ps)) (chain-alternative link html ps p.before) (chain-alternative link html ps n)
-  where
-    go : (b : Bool) → write_all (page html (Alternative link)) (chain ps p.before) ≡ page html (Alternative link) → write_all (page html (Alternative link)) (chain ps n) ≡ page html (Alternative link)
-        → write_all (page html (Alternative link)) (cond b (Start p.tag ∷ chain ps p.before) (chain ps n)) ≡ page html (Alternative link)
-    go true h g = h
-    go false h g = g
+chain-alternative link html (p ∷ ps) n = search (rules, (chain-alternative link html ps p.before), (chain-alternative link html ps n))
 
 run-alternative : (link : ℕ) (html : List ℕ) (ps : List made.Pair) (number : ℕ) (r : held.Run) → write_all (page html (Alternative link)) (run_events (pairs_in ps) number (paired_run r)) ≡ page (html ++ replicate r.run.left (byte_of r.run.marker)) (Alternative link)
 unfolding write_all
-run-alternative link html ps number r =
-    let rest = replicate r.run.left (byte_of r.run.marker) in
-    let more = Rest number (run_of r.run) ∷ starts (pairs_in ps) r.opened in
-    write-append (page html (Alternative link)) (ends_between (pairs_in ps) r.from r.to) more
-    ∙ ap (λ qs. write_all (write_all (page html (Alternative link)) (ends qs)) more) (ap (drop r.from) (take-map pair_in r.to ps) ∙ drop-map pair_in r.from (take r.to ps))
-    ∙ ap (λ p. write_all p more) (ends-alternative link html (drop r.from (take r.to ps)))
-    ∙ ap (λ t. write_all (page (html ++ t) (Alternative link)) (starts (pairs_in ps) r.opened)) (run-html r.run.marker r.run.left)
-    ∙ chain-alternative link (html ++ rest) (reverse (pairs_in ps)) r.opened
+run-alternative link html ps number r = search (rules, write-append, take-map, drop-map, ends-alternative, run-html, chain-alternative)
 
 pub alt-run : (source : List ℕ) (targets : Targets) (reader : Reader) (mark : Mark) (link : ℕ) (html new : List ℕ) (number : ℕ) (run : held.Run) → mark.kind ≡ kinds.Run number → IsMarkIn source targets reader mark
     → run ≡ get_or reader.runs.runs.items number run → new ≡ html ++ replicate run.run.left (byte_of run.run.marker) → Adds (Alternative link) html (mark_events source targets reader mark) new
-alt-run source targets reader mark link html new number run is m of e =
-    let runs = reader.runs.runs.items in
-    let pairs = pairs_in reader.runs.pairs.items in
-    let low : number < length runs = (known source targets reader mark (kinds.Run number) is m).0 in
-    let found : get_or (runs_in runs) number parts.no_run ≡ paired_run run = get_or-map paired_run runs number run parts.no_run low ∙ ap paired_run (sym of) in
-    alt-of source targets reader mark link html new (kinds.Run number) is
-    (ap (λ r. write_all (page html (Alternative link)) (run_events pairs number r)) found ∙ run-alternative link html reader.runs.pairs.items number run ∙ ap (λ h. page h (Alternative link)) (sym e))
+alt-run source targets reader mark link html new number run is m of e = search (rules, known, get_or-map, alt-of, run-alternative)

@@ -1,18 +1,16 @@
 -- What is known not to follow in a source.
-use Rattle.std.proofs.Common.{◌≡◌, ℕ, ◌+◌, ◌-◌, ◌≤◌, Bool, true, false, List, [], ◌++◌, length, take, drop, nat_eq, Option, Some, None, IfSome, codes, refl, sym, ap, ◌∙◌, arith, subst, inl, inr, ◌⊎◌}
+use Rattle.cm_inline.proofs.lemmas.Words.{◌≡◌, ℕ, ◌+◌, ◌-◌, ◌≤◌, Bool, true, false, List, [], ◌++◌, length, take, drop, Option, Some, None, IfSome, codes, refl, sym}
+use Rattle.cm_inline.proofs.lemmas.Words.{ap, ◌∙◌, arith, nat_tests, drop_all, is_byte, Rules, run_length, after_run, raw_html, up_to_run, spanned_as_written, Comment}
+use Rattle.cm_inline.proofs.lemmas.Words.{Declaration, MissingEnds, rules}
+use Rattle.std.proofs.Common.{nat_eq}
 use Rattle.std.specs.List.{starts_with}
 use Rattle.std.specs.Bool.{then_some}
 use Rattle.std.specs.Ordering.{nat_cmp}
 use Rattle.std.specs.Option.{option_map_or}
 use Rattle.std.specs.BTreeMap.{BTreeMap, is_at, Updates}
 use Rattle.std.proofs.lemmas.Bool.{cases_eq}
-use Rattle.std.proofs.lemmas.Bool.Decides.{nat_tests}
-use Rattle.std.proofs.lemmas.List.{drop_all}
-use Rattle.memchr.specs.Find.{IsFirstByte, is_byte}
-use Rattle.cm_text.specs.Rules.{Rules}
-use Rattle.cm_scan.specs.Words.{run_length, after_run}
-use Rattle.cm_scan.specs.spans.RawHtml.{behind_word, raw_html}
-use Rattle.cm_scan.specs.spans.CodeSpans.{up_to_run, spanned_as_written}
+use Rattle.memchr.specs.Find.{IsFirstByte}
+use Rattle.cm_scan.specs.spans.RawHtml.{behind_word}
 use Rattle.cm_scan.specs.laws.SpanLaws.{NeedsEnd}
 use Rattle.cm_scan.proofs.lemmas.blocks.WordsInAnyCase.{slice_from, starts_at}
 use Rattle.cm_scan.proofs.lemmas.texts.FoundWords.{word-there}
@@ -20,8 +18,7 @@ use Rattle.cm_scan.proofs.lemmas.spans.RawHtmlGoesOn.{word-front}
 use Rattle.cm_scan.proofs.lemmas.spans.BacktickStrings.{Found, found-at, nowhere, no-run-here, none-before, none-behind}
 use Rattle.cm_scan.proofs.lemmas.spans.RawHtmlNeedsItsEnd.{comment-needs, instruction-needs, section-needs, any-needs}
 use Rattle.cm_inline.specs.declared.missing_ends.Form.{Form}
-use Rattle.cm_inline.specs.declared.missing_ends.Form.TheVariants.{Comment, Instruction, CharacterData, Declaration}
-use Rattle.cm_inline.specs.declared.missing_ends.MissingEnds.{MissingEnds}
+use Rattle.cm_inline.specs.declared.missing_ends.Form.TheVariants.{Instruction, CharacterData}
 use Rattle.cm_inline.specs.steps.Missing.{start_of, end_of, Missing, missing_from, after_last, Knows, NoneFrom}
 
 -- no word is at the end of a source
@@ -37,13 +34,7 @@ abbrev of_length : ℕ → MissingEnds
 of_length len = record { comment = len; instruction = len; character_data = len; declaration = len; backticks = None }
 
 pub known-at-end : (source : List ℕ) → Knows source (of_length (length source))
-known-at-end source = record { forms = go; backticks = tt }
-  where
-    go : (form : Form) → Missing source (end_of form) (missing_from (of_length (length source)) form)
-    go Comment = missing-at-end (codes "-->") source
-    go Instruction = missing-at-end (codes "?>") source
-    go CharacterData = missing-at-end (codes "]]>") source
-    go Declaration = missing-at-end (codes ">") source
+known-at-end source = search (rules, missing-at-end)
 
 -- a text that starts with a word
 begins-so : (word text : List ℕ) → starts_with nat_eq text word ≡ true → (rest : List ℕ) × (text ≡ word ++ rest)
@@ -61,11 +52,7 @@ abbrev Begins : List ℕ → Form → Type 0
 Begins text form = (rest : List ℕ) × (text ≡ start_of form ++ rest)
 
 pub form-begins : (text : List ℕ) (form : Form) (told : Bool) (result : Option Form) → (told ≡ true → Begins text form) → result ≡ then_some told form → IfSome result (Begins text)
-form-begins text form told result there h = subst (λ r. IfSome r (Begins text)) (sym h) (go told there)
-  where
-    go : (t : Bool) → (t ≡ true → Begins text form) → IfSome (then_some t form) (Begins text)
-    go true k = k refl
-    go false k = tt
+form-begins text form told result there h = search rules
 
 -- so no raw HTML starts where its end is missing
 
@@ -110,13 +97,7 @@ module _ (last next : BTreeMap ℕ ℕ) (key end : ℕ) (updates : Updates nat_c
       → drop end source ≡ after_run 96 (drop (at + plain) source) → key ≡ end - (at + plain)
       → ((count : ℕ) → up_to_run count false (drop at source) ≡ None → up_to_run count false (drop (after_last last count) source) ≡ None)
       → (count : ℕ) → up_to_run count false (drop end source) ≡ None → up_to_run count false (drop (after_last next count) source) ≡ None
-  none-behind-last source at plain found run left size before count none = go (cases_eq key count)
-    where
-      go : (key ≡ count) ⊎ (key ≡ count → ⊥) → up_to_run count false (drop (after_last next count) source) ≡ None
-      go (inl same) = ap (λ k. up_to_run count false (drop k source)) (ap (after_last next) (sym same) ∙ behind-this) ∙ none
-      go (inr other) =
-          ap (λ k. up_to_run count false (drop k source)) (behind-other count other)
-          ∙ before count (none-before count source at plain found end run left (λ e. other (size ∙ e)) none)
+  none-behind-last source at plain found run left size before count none = search (rules, cases_eq, behind-this, behind-other, none-before)
 
 -- a backtick string whose like isn't found after it starts no code span
 pub no-code-span : (source : List ℕ) (at count start : ℕ) → start ≡ at + count → run_length 96 (drop at source) ≡ count → NoneFrom source count start → spanned_as_written (drop at source) ≡ None

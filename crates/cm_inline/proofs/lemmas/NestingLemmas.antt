@@ -1,19 +1,10 @@
 -- How deep events nest, one after another.
-use Rattle.std.proofs.Common.{◌≡◌, ℕ, ◌+◌, ◌-◌, ◌^◌, ◌<◌, ◌≤◌, ◌==◌, Bool, true, false, cond, max, List, [], ◌∷◌, ◌++◌, length, take, drop, get_or, codes, Some, None, refl, sym, ap, subst, ◌∙◌, arith}
-use Rattle.std.specs.Prelude.{if◌then◌else◌}
-use Rattle.std.specs.List.{slice_range}
-use Rattle.std.proofs.lemmas.Bool.{eqb-false}
-use Rattle.std.proofs.lemmas.List.{append-nil, drop_more, drop_all, length-take, length-drop, get_or_read}
-use Rattle.cm_tree.specs.Definitions.{Targets}
-use Rattle.cm_tree.specs.Depth.{depth_step, depth_of}
-use Rattle.cm_tree.specs.declared.tree.Inline.TheFolds.{fold_out-Inline}
+use Rattle.cm_inline.proofs.lemmas.Words.{◌≡◌, ℕ, ◌+◌, ◌-◌, ◌^◌, ◌<◌, ◌≤◌, ◌==◌, Bool, true, false, cond, max, List, [], ◌∷◌, ◌++◌, length, drop, get_or, Some, None}
+use Rattle.cm_inline.proofs.lemmas.Words.{refl, sym, ap, subst, ◌∙◌, arith, slice_range, eqb-false, drop_more, drop_all, length-take, get_or_read, Targets, depth_of}
+use Rattle.cm_inline.proofs.lemmas.Words.{Reader, Kind, Mark, rules}
+use Rattle.std.proofs.lemmas.List.{append-nil, length-drop}
 use Rattle.cm_tree.specs.declared.tree.Inline.TheVariants as inlines
-use Rattle.cm_tree.specs.declared.tree.Inline.TheVariants.{outs-Text, outs-Code, outs-Html, outs-Link, outs-Soft, outs-Hard}
-use Rattle.cm_scan.specs.spans.CodeSpans.{one_line}
-use Rattle.cm_inline.specs.declared.brackets.Reader.{Reader}
-use Rattle.cm_inline.specs.declared.marks.Kind.{Kind}
 use Rattle.cm_inline.specs.declared.marks.Kind.TheVariants as kinds
-use Rattle.cm_inline.specs.declared.marks.Mark.{Mark}
 use Rattle.cm_inline.specs.declared.nesting.Level.{Level}
 use Rattle.cm_inline.specs.declared.runs.Run as held
 use Rattle.cm_inline.specs.declared.runs.Pair as made
@@ -23,12 +14,12 @@ use Rattle.cm_inline.specs.steps.pairing.Readings.{deepest}
 use Rattle.cm_inline.specs.steps.pairing.States.{AreChained, no_run, run_at}
 use Rattle.cm_inline.specs.steps.Marks.{text_event, texts, part_of_kind, AreLaid}
 use Rattle.cm_inline.specs.steps.Nesting.{rise, rise_all, CanRiseAll, NestsTo, NestsFrom}
-use Rattle.cm_inline.specs.steps.Runs.{run_of, runs_in, pairs_in, paired_run}
-use Rattle.cm_inline.specs.steps.Standalone.{autolink}
+use Rattle.cm_inline.specs.steps.Runs.{runs_in, pairs_in, paired_run}
 use Rattle.cm_inline.specs.steps.Writing.{no_mark, mark_numbered, mark_events, events_from, IsMarkIn}
 use Rattle.cm_inline.proofs.lemmas.LaidLemmas.{events-next, events-last}
 use Rattle.cm_inline.proofs.lemmas.RunLemmas.{run-known}
 use Rattle.cm_inline.proofs.lemmas.TagLemmas.{length-pairs}
+use Rattle.cm_inline.proofs.lemmas.DepthLemmas.{code-depth, html-depth, soft-depth, hard-depth, autolink-depth}
 
 pub rise-append : (l : Level) (fs gs : List Event) → rise_all l (fs ++ gs) ≡ rise_all (rise_all l fs) gs
 unfolding rise_all
@@ -62,10 +53,7 @@ level now most = record { now = now; most = most }
 ends-fall : (bound : ℕ) (l : Level) (ps : List Pair) → CanRiseAll bound l (ends ps) → (length ps ≤ l.now) × (rise_all l (ends ps) ≡ level (l.now - length ps) l.most)
 unfolding rise_all
 ends-fall bound l [] h = (omega arith, ap (λ n. level n l.most) (omega arith))
-ends-fall bound l (p ∷ ps) h =
-    let rest = ends-fall bound (level (l.now - 1) l.most) ps h.1 in
-    let some : 1 ≤ l.now = h.0 in
-    (omega (arith, rest.0, some), rest.1 ∙ ap (λ n. level n l.most) (omega (arith, rest.0, some)))
+ends-fall bound l (p ∷ ps) h = search (rules, (ends-fall bound (level (l.now - 1) l.most) ps h.1))
 
 -- what was made of a run
 pub record RunRises (bound : ℕ) (l : Level) (pairs : List Pair) (number : ℕ) (r : held.Run) : Type 0 where
@@ -80,56 +68,17 @@ pub record RunRisesAt (bound : ℕ) (l : Level) (pairs : List made.Pair) (number
 
 pub run-rises : (bound : ℕ) (l : Level) (pairs : List Pair) (number : ℕ) (r : held.Run) → r.to ≤ length pairs → CanRiseAll bound l (run_events pairs number (paired_run r)) → RunRises bound l pairs number r
 unfolding rise_all
-run-rises bound l pairs number r to can =
-    let closed = drop r.from (take r.to pairs) in
-    let more = Rest number (run_of r.run) ∷ starts pairs r.opened in
-    let size : length closed ≡ r.to - r.from = omega (arith, length-drop r.from (take r.to pairs), length-take r.to pairs, to) in
-    let parts = can-append bound l (ends closed) more can in
-    let fall = ends-fall bound l closed parts.0 in
-    let behind : rise_all l (ends closed) ≡ level (l.now - (r.to - r.from)) l.most = fall.1 ∙ ap (λ n. level (l.now - n) l.most) size in
-    record {
-      holds = omega (arith, fall.0, size);
-      starts_rise = (subst (λ k. CanRiseAll bound k more) behind parts.1).1;
-      is = rise-append l (ends closed) more ∙ ap (λ k. rise_all k more) behind;
-    }
+run-rises bound l pairs number r to can = search (rules, length-drop, length-take, can-append, ends-fall, rise-append)
 
 -- the same of the run that was read
 pub run-rises-at : (bound : ℕ) (l : Level) (runs : List held.Run) (pairs : List made.Pair) (number : ℕ) (r : held.Run) → number < length runs → r ≡ get_or runs number r → AreChained (runs_in runs) (pairs_in pairs)
     → CanRiseAll bound l (run_events (pairs_in pairs) number (paired_run (run_at runs number))) → RunRisesAt bound l pairs number (run_at runs number) r
-run-rises-at bound l runs pairs number r low read chained can =
-    let is : r ≡ run_at runs number = get_or_read runs number r low read no_run in
-    let known = run-known runs pairs number r low read chained in
-    let rises = run-rises bound l (pairs_in pairs) number r (omega (arith, known.to, length-pairs pairs)) (subst (λ (q : held.Run). CanRiseAll bound l (run_events (pairs_in pairs) number (paired_run q))) (sym is) can) in
-    record { holds = rises.holds; starts_rise = rises.starts_rise; is = ap (λ (q : held.Run). rise_all l (run_events (pairs_in pairs) number (paired_run q))) (sym is) ∙ rises.is }
+run-rises-at bound l runs pairs number r low read chained can = search (rules, get_or_read, run-known, run-rises, length-pairs)
 
 -- one mark
 
 abbrev kind_events : List ℕ → Targets → Reader → Mark → Kind → List Event
 kind_events source targets reader mark kind = part_events (runs_in reader.runs.runs.items) (pairs_in reader.runs.pairs.items) (part_of_kind source targets reader.links.items mark.at mark.end kind)
-
-autolink-depth : (is_address : Bool) (text : List ℕ) → depth_of (autolink is_address text) ≡ 1
-autolink-depth is_address text = linked (if is_address then codes "mailto:" ++ text else text)
-  where
-    text-is : depth_of (inlines.Text text) ≡ 0
-    text-is = simp (fold_out-Inline ℕ depth_step, outs-Text)
-
-    link-is : (dest : List ℕ) → depth_of (inlines.Link dest [] (inlines.Text text ∷ [])) ≡ max (depth_of (inlines.Text text)) 0 + 1
-    link-is dest = simp (fold_out-Inline ℕ depth_step, outs-Link)
-
-    linked : (dest : List ℕ) → depth_of (inlines.Link dest [] (inlines.Text text ∷ [])) ≡ 1
-    linked dest = link-is dest ∙ ap (λ n. max n 0 + 1) text-is ∙ omega arith
-
-code-depth : (text : List ℕ) → depth_of (inlines.Code text) ≡ 0
-code-depth text = simp (fold_out-Inline ℕ depth_step, outs-Code)
-
-html-depth : (text : List ℕ) → depth_of (inlines.Html text) ≡ 0
-html-depth text = simp (fold_out-Inline ℕ depth_step, outs-Html)
-
-soft-depth : depth_of inlines.Soft ≡ 0
-soft-depth = simp (fold_out-Inline ℕ depth_step, outs-Soft)
-
-hard-depth : depth_of inlines.Hard ≡ 0
-hard-depth = simp (fold_out-Inline ℕ depth_step, outs-Hard)
 
 of-kind : (source : List ℕ) (targets : Targets) (reader : Reader) (mark : Mark) (l new : Level) (kind : Kind) → mark.kind ≡ kind → new ≡ rise_all l (kind_events source targets reader mark kind) → new ≡ rise_all l (mark_events source targets reader mark)
 of-kind source targets reader mark l new kind is h = subst (λ k. new ≡ rise_all l (kind_events source targets reader mark k)) (sym is) h
@@ -163,31 +112,13 @@ same-level l n high e = ap (level l.now) (omega (arith, high, e))
 pub flat-level : (source : List ℕ) (targets : Targets) (reader : Reader) (mark : Mark) (l : Level) → l.now ≤ l.most → ((is_address : Bool) → mark.kind ≡ kinds.Autolink is_address → ⊥) → ((n : ℕ) → mark.kind ≡ kinds.Run n → ⊥)
     → ((n : ℕ) → mark.kind ≡ kinds.Start n → ⊥) → ((n : ℕ) → mark.kind ≡ kinds.End n → ⊥) → l ≡ rise_all l (mark_events source targets reader mark)
 unfolding rise_all
-flat-level source targets reader mark l high no_autolink no_run no_start no_end = go mark.kind refl
-  where
-    go : (kind : Kind) → mark.kind ≡ kind → l ≡ rise_all l (kind_events source targets reader mark kind)
-    go kinds.Plain e = refl
-    go kinds.Escaped e = refl
-    go kinds.Nothing e = refl
-    go (kinds.Character c) e = refl
-    go (kinds.Code from to) e = same-level l _ high (code-depth (one_line (slice_range source from to)))
-    go kinds.Html e = same-level l _ high (html-depth (slice_range source mark.at mark.end))
-    go (kinds.Autolink is_address) e = absurd (no_autolink is_address e)
-    go kinds.Soft e = same-level l _ high soft-depth
-    go kinds.Hard e = same-level l _ high hard-depth
-    go (kinds.Run number) e = absurd (no_run number e)
-    go (kinds.Start number) e = absurd (no_start number e)
-    go (kinds.End number) e = absurd (no_end number e)
+flat-level source targets reader mark l high no_autolink no_run no_start no_end = search (rules, same-level, code-depth, html-depth, soft-depth, hard-depth)
 
 -- from how deep all nest it follows that the levels so far can rise
 
 most-below : (d m total : ℕ) (fs : List Event) → deepest d m fs ≡ Some total → m ≤ total
 unfolding deepest
-most-below d m total [] h = go (d == 0) h
-  where
-    go : (b : Bool) → cond b (Some m) None ≡ Some total → m ≤ total
-    go true e = let same : m ≡ total = cc e in omega (arith, same)
-    go false e = absurd (cc e)
+most-below d m total [] h = search rules
 most-below d m total (Text t ∷ fs) h = most-below d m total fs h
 most-below d m total (Rest n r ∷ fs) h = most-below d m total fs h
 most-below d m total (Whole i ∷ fs) h = omega (arith, most-below d (max m (d + depth_of i)) total fs h)
@@ -229,11 +160,8 @@ rises bound total l (End tag ∷ fs) more high low h = go (l.now == 0) refl h (�
 -- text doesn't nest
 byte-flat : (d m b : ℕ) (more : List Event) → d ≤ m → deepest d m (text_event b ∷ more) ≡ deepest d m more
 unfolding deepest
-byte-flat d m b more high = go (b == 10)
-  where
-    go : (c : Bool) → deepest d m (cond c (Whole inlines.Soft) (Text (b ∷ [])) ∷ more) ≡ deepest d m more
-    go true = ap (λ n. deepest d n more) (omega (arith, high, soft-depth))
-    go false = refl
+byte-flat d m b more high =
+    elim (b == 10) as (λ c. deepest d m (cond c (Whole inlines.Soft) (Text (b ∷ [])) ∷ more) ≡ deepest d m more) [ true ↦ ap (λ n. deepest d n more) (omega (arith, high, soft-depth)) | false ↦ refl ]
 
 texts-flat : (runs : List PairedRun) (pairs : List Pair) (d m : ℕ) (text : List ℕ) (more : List Event) → d ≤ m → deepest d m (events_of runs pairs (texts text) ++ more) ≡ deepest d m more
 unfolding events_of
@@ -241,9 +169,6 @@ texts-flat runs pairs d m [] more high = refl
 texts-flat runs pairs d m (b ∷ bs) more high = byte-flat d m b (events_of runs pairs (texts bs) ++ more) high ∙ texts-flat runs pairs d m bs more high
 
 -- all marks
-
-pub nests-first : (lines : Bool) (source : List ℕ) (targets : Targets) (reader : Reader) (depth : ℕ) → NestsTo lines source targets reader depth → NestsFrom lines source targets reader depth 0 (level 0 0)
-nests-first lines source targets reader depth n = record { from = 0; laid = n.laid; high = omega arith; rest = n.nests }
 
 -- the next mark
 pub record NestsAt (source : List ℕ) (targets : Targets) (reader : Reader) (bound : ℕ) (l : Level) (mark : Mark) : Type 0 where
@@ -256,13 +181,7 @@ next-laid lines source targets reader depth at l h n = subst (AreLaid lines sour
 
 next-deepest : (lines : Bool) (source : List ℕ) (targets : Targets) (reader : Reader) (depth at : ℕ) (l : Level) → at < length reader.marks.items → NestsFrom lines source targets reader depth at l
     → (let m = mark_numbered reader.marks.items at in deepest l.now l.most (mark_events source targets reader m ++ events_from source targets reader m.end (drop (at + 1) reader.marks.items)) ≡ Some depth)
-next-deepest lines source targets reader depth at l h n =
-    let m = mark_numbered reader.marks.items at in
-    let ms = drop (at + 1) reader.marks.items in
-    let more = mark_events source targets reader m ++ events_from source targets reader m.end ms in
-    sym (texts-flat (runs_in reader.runs.runs.items) (pairs_in reader.runs.pairs.items) l.now l.most (slice_range source n.from m.at) more n.high)
-    ∙ ap (deepest l.now l.most) (sym (events-next source targets reader n.from m ms))
-    ∙ ap (λ t. deepest l.now l.most (events_from source targets reader n.from t)) (sym (drop_more reader.marks.items at no_mark h)) ∙ n.rest
+next-deepest lines source targets reader depth at l h n = search (rules, texts-flat, events-next, drop_more)
 
 pub nests-at : (lines : Bool) (source : List ℕ) (targets : Targets) (reader : Reader) (bound depth at : ℕ) (l : Level) (mark : Mark) → at < length reader.marks.items → mark ≡ mark_numbered reader.marks.items at → AreChained (runs_in reader.runs.runs.items) (pairs_in reader.runs.pairs.items)
     → depth < bound → NestsFrom lines source targets reader depth at l → NestsAt source targets reader bound l mark
@@ -289,11 +208,7 @@ nests-last lines source targets reader depth at l h n =
     let whole : deepest l.now l.most [] ≡ Some depth =
     sym (texts-flat (runs_in reader.runs.runs.items) (pairs_in reader.runs.pairs.items) l.now l.most text [] n.high) ∙ ap (deepest l.now l.most) (append-nil events ∙ sym (events-last source targets reader n.from))
     ∙ ap (λ t. deepest l.now l.most (events_from source targets reader n.from t)) (sym (drop_all at reader.marks.items h)) ∙ n.rest in
-    go (l.now == 0) whole
-  where
-    go : (b : Bool) → cond b (Some l.most) None ≡ Some depth → l.most ≡ depth
-    go true e = cc e
-    go false e = absurd (cc e)
+    (elim (l.now == 0) as (λ b. cond b (Some l.most) None ≡ Some depth → l.most ≡ depth) [ true ↦ λ e. cc e | false ↦ λ e. absurd (cc e) ]) whole
 
 -- all levels fit
 pub nests-fit : (lines : Bool) (source : List ℕ) (targets : Targets) (reader : Reader) (depth : ℕ) → NestsTo lines source targets reader depth → depth < 2 ^ 64

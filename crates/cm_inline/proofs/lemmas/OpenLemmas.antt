@@ -1,17 +1,9 @@
 -- Open brackets among segments, with more behind them.
-use Rattle.std.proofs.Common.{◌≡◌, ℕ, ◌<◌, ◌≤◌, Bool, true, false, ◌||◌, List, [], ◌∷◌, ◌++◌, length, refl, sym, ap, subst, ◌∙◌, arith, append_assoc, length-append}
-use Rattle.std.specs.Prelude.{nat_lt}
-use Rattle.std.proofs.lemmas.Bool.Decides.{nat_tests}
-use Rattle.cm_scan.specs.inlines.Pairing.{Item}
-use Rattle.cm_scan.specs.inlines.Brackets.{is_linked, holds_link}
-use Rattle.cm_inline.specs.declared.brackets.Bracket.{Bracket}
-use Rattle.cm_inline.specs.declared.brackets.Link.{Link}
-use Rattle.cm_inline.specs.declared.marks.Mark.{Mark}
-use Rattle.cm_inline.specs.declared.marks.Kind.TheVariants.{Plain}
-use Rattle.cm_inline.specs.declared.runs.Run.{Run as HeldRun}
+use Rattle.cm_inline.proofs.lemmas.Words.{◌≡◌, ℕ, ◌<◌, ◌≤◌, Bool, true, false, ◌||◌, List, [], ◌∷◌, ◌++◌, length, refl, sym, ap, subst, ◌∙◌, arith, append_assoc}
+use Rattle.cm_inline.proofs.lemmas.Words.{length-append, nat_lt, nat_tests, Item, is_linked, holds_link, Bracket, Link, Mark, Plain, HeldRun, rules}
 use Rattle.cm_inline.specs.steps.pairing.Segments.{Segment, Waiting, Made, items_in, parts_in, all_parts, numbers_in}
 use Rattle.cm_inline.specs.steps.Brackets.{MarkedLeaf, is_opener, has_opener, AreClosed, IsOpener, opened, AreOpen}
-use Rattle.cm_inline.specs.steps.Marks.{parts_between, IsUnmarked}
+use Rattle.cm_inline.specs.steps.Marks.{IsUnmarked}
 use Rattle.cm_inline.proofs.lemmas.JoinLemmas.{Later, laid-join, parts-join, parts-none, laid-later, parts-later}
 
 -- segments one after another
@@ -33,8 +25,7 @@ numbers-append (Waiting number run ∷ xs) ys = ap (λ t. number ∷ t) (numbers
 numbers-append (Made parts item high ∷ xs) ys = numbers-append xs ys
 
 or-assoc : (u v w : Bool) → (u || v) || w ≡ u || (v || w)
-or-assoc true v w = refl
-or-assoc false v w = refl
+or-assoc u v w = grind (arith, nat_tests)
 
 pub holds-append : (xs ys : List Item) → holds_link (xs ++ ys) ≡ holds_link xs || holds_link ys
 unfolding holds_link
@@ -51,11 +42,7 @@ neither u v e f = ap (λ u. u || v) e ∙ f
 
 -- closed segments, one after another
 pub closed-join : (leaf : MarkedLeaf) (from mid to : ℕ) (xs ys : List Segment) (ms ns : List Mark) → AreClosed leaf from mid xs ms → AreClosed leaf mid to ys ns → AreClosed leaf from to (xs ++ ys) (ms ++ ns)
-closed-join leaf from mid to xs ys ms ns h g = record {
-  parts = all_parts-append xs ys ∙ ap (λ t. t ++ all_parts ys) h.parts ∙ ap (λ t. parts_between leaf.source leaf.targets leaf.links from mid ms ++ t) g.parts ∙ sym (parts-join leaf.lines leaf.source leaf.targets leaf.runs leaf.links from mid to ms ns h.laid g.laid);
-  laid = laid-join leaf.lines leaf.source leaf.targets leaf.runs leaf.links from mid to ms ns h.laid g.laid;
-  none = ap has_opener (items-append xs ys) ∙ opener-append (items_in xs) (items_in ys) ∙ neither (has_opener (items_in xs)) (has_opener (items_in ys)) h.none g.none;
-}
+closed-join leaf from mid to xs ys ms ns h g = search (rules, all_parts-append, parts-join, laid-join, items-append, opener-append, neither)
 
 -- Closed segments go behind open brackets.
 pub open-more : (leaf : MarkedLeaf) (bs : List Bracket) (xs ys : List Segment) (ms ns : List Mark) (mid to : ℕ) (linked : Bool) → AreOpen leaf bs xs ms mid (holds_link (items_in ys) || linked) → AreClosed leaf mid to ys ns
@@ -86,38 +73,18 @@ abbrev pub later_leaf : MarkedLeaf → List HeldRun → List Link → ℕ → Ma
 later_leaf leaf runs more links_end = record { lines = leaf.lines; source = leaf.source; targets = leaf.targets; runs = runs; links = leaf.links ++ more; links_end = links_end }
 
 pub closed-later : (leaf : MarkedLeaf) (runs : List HeldRun) (more : List Link) (links_end from to : ℕ) (xs : List Segment) (ms : List Mark) → Later leaf.runs runs → AreClosed leaf from to xs ms → AreClosed (later_leaf leaf runs more links_end) from to xs ms
-closed-later leaf runs more links_end from to xs ms later h = record {
-  parts = h.parts ∙ sym (parts-later leaf.lines leaf.source leaf.targets leaf.runs runs leaf.links more later from to ms h.laid);
-  laid = laid-later leaf.lines leaf.source leaf.targets leaf.runs runs leaf.links more later from to ms h.laid;
-  none = h.none;
-}
+closed-later leaf runs more links_end from to xs ms later h = search (rules, parts-later, laid-later)
 
 pub open-later : (leaf : MarkedLeaf) (runs : List HeldRun) (more : List Link) (bs : List Bracket) (xs : List Segment) (ms : List Mark) (to : ℕ) (linked : Bool) → Later leaf.runs runs → AreOpen leaf bs xs ms to linked
     → AreOpen (later_leaf leaf runs more leaf.links_end) bs xs ms to linked
 open-later leaf runs more [] xs ms to linked later h = closed-later leaf runs more leaf.links_end 0 to xs ms later h
-open-later leaf runs more (b ∷ bs) xs ms to linked later h = record {
-  front = h.front;
-  high = h.high;
-  inside = h.inside;
-  early = h.early;
-  at = h.at;
-  late = h.late;
-  whole = h.whole;
-  marks_are = h.marks_are;
-  closed = closed-later leaf runs more leaf.links_end b.end to h.inside h.late later h.closed;
-  bracket = h.bracket;
-  number = h.number;
-  waiting = h.waiting;
-  link = h.link;
-  below = open-later leaf runs more bs h.front h.early h.at (holds_link (items_in h.inside) || linked) later h.below;
-}
+open-later leaf runs more (b ∷ bs) xs ms to linked later h = search (rules, closed-later, (open-later leaf runs more bs h.front h.early h.at (holds_link (items_in h.inside) || linked) later h.below))
 
 below-end : (n end : ℕ) → n < end → nat_lt n end ≡ true
 below-end n end h = grind (arith, nat_tests, h)
 
 or-true : (v : Bool) → v || true ≡ true
-or-true true = refl
-or-true false = refl
+or-true v = grind (arith, nat_tests)
 
 -- A link ends behind them all.
 pub open-linked : (leaf : MarkedLeaf) (runs : List HeldRun) (more : List Link) (links_end : ℕ) (bs : List Bracket) (xs : List Segment) (ms : List Mark) (to : ℕ) (linked : Bool) → Later leaf.runs runs → length ms ≤ links_end → AreOpen leaf bs xs ms to linked
@@ -126,23 +93,9 @@ open-linked leaf runs more links_end [] xs ms to linked later high h = closed-la
 open-linked leaf runs more links_end (b ∷ bs) xs ms to linked later high h =
     let m : Mark = record { at = h.at; end = b.end; kind = Plain } in
     let low : b.mark < links_end = omega (arith, h.number, ap length h.marks_are, length-append h.early (m ∷ h.late), high) in
-    record {
-      front = h.front;
-      high = h.high;
-      inside = h.inside;
-      early = h.early;
-      at = h.at;
-      late = h.late;
-      whole = h.whole;
-      marks_are = h.marks_are;
-      closed = closed-later leaf runs more links_end b.end to h.inside h.late later h.closed;
-      bracket = h.bracket;
-      number = h.number;
-      waiting = h.waiting;
-      link = below-end b.mark links_end low ∙ sym (or-true (holds_link (items_in h.inside)));
-      below = subst (AreOpen (later_leaf leaf runs more links_end) bs h.front h.early h.at) (sym (or-true (holds_link (items_in h.inside))))
-          (open-linked leaf runs more links_end bs h.front h.early h.at (holds_link (items_in h.inside) || linked) later (omega (arith, h.number, low)) h.below);
-    }
+    search (rules, (closed-later leaf runs more links_end b.end to h.inside h.late later h.closed), (below-end b.mark links_end low ∙ sym (or-true (holds_link (items_in h.inside)))),
+        (subst (AreOpen (later_leaf leaf runs more links_end) bs h.front h.early h.at) (sym (or-true (holds_link (items_in h.inside))))
+            (open-linked leaf runs more links_end bs h.front h.early h.at (holds_link (items_in h.inside) || linked) later (omega (arith, h.number, low)) h.below)))
 
 not-below : (n end : ℕ) → end ≤ n → nat_lt n end ≡ false
 not-below n end h = grind (arith, nat_tests, h)
@@ -152,19 +105,4 @@ pub open-opened : (leaf : MarkedLeaf) (bs : List Bracket) (b : Bracket) (high : 
     → b.waiting ≡ length (numbers_in xs) → leaf.links_end ≤ length ms → IsUnmarked leaf.lines leaf.source b.end b.end
     → AreOpen leaf (b ∷ bs) (xs ++ opened leaf.source b high ∷ []) (ms ++ record { at = at; end = b.end; kind = Plain } ∷ []) b.end false
 unfolding holds_link items_in all_parts has_opener
-open-opened leaf bs b high xs ms at h bracket number waiting low none = record {
-  front = xs;
-  high = high;
-  inside = [];
-  early = ms;
-  at = at;
-  late = [];
-  whole = refl;
-  marks_are = refl;
-  closed = record { parts = sym (parts-none leaf.lines leaf.source leaf.targets leaf.runs leaf.links b.end); laid = none; none = refl };
-  bracket = bracket;
-  number = number;
-  waiting = waiting;
-  link = not-below b.mark leaf.links_end (omega (arith, number, low));
-  below = h;
-}
+open-opened leaf bs b high xs ms at h bracket number waiting low none = grind (arith, nat_tests, parts-none, not-below)

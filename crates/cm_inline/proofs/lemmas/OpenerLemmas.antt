@@ -1,8 +1,10 @@
 -- The stack of openers as a list of entries, the last first.
-use Rattle.std.proofs.Common.{◌≡◌, ℕ, zero, suc, ◌+◌, ◌-◌, ◌<◌, ◌≤◌, true, false, cond, ◌==◌, ◌&&◌, nat_lt, List, [], ◌∷◌, ◌++◌, length, map, reverse, take, get_or, set, Some, None, sym, ap, ◌∙◌, arith}
-use Rattle.std.proofs.lemmas.List.{reverse-append, map-append, take_more, take_more_set, length-map, length-reverse, length-set, take_all, get_or_read}
-use Rattle.std.proofs.lemmas.Bool.{cond-true, cond-false, lt-ltb, le-ltb, ne_eqb}
-use Rattle.cm_scan.specs.inlines.Delimiters.{Run, delimiters_match}
+use Rattle.cm_inline.proofs.lemmas.Words.{◌≡◌, ℕ, zero, suc, ◌+◌, ◌-◌, ◌<◌, ◌≤◌, true, false, cond, ◌==◌, ◌&&◌, List, [], ◌∷◌, ◌++◌, length, map, reverse, take}
+use Rattle.cm_inline.proofs.lemmas.Words.{get_or, set, Some, None, sym, ap, ◌∙◌, arith, reverse-append, map-append, length-set, take_all, get_or_read, cond-true}
+use Rattle.cm_inline.proofs.lemmas.Words.{cond-false, ne_eqb, Run, delimiters_match}
+use Rattle.std.proofs.Common.{nat_lt}
+use Rattle.std.proofs.lemmas.List.{take_more, take_more_set}
+use Rattle.std.proofs.lemmas.Bool.{lt-ltb, le-ltb}
 use Rattle.cm_inline.specs.declared.openers.Opener.{Opener}
 use Rattle.cm_inline.specs.steps.Entries.{answers}
 use Rattle.cm_inline.specs.steps.Openers.{no_opener, entries_in, leaving, AreOpeners}
@@ -17,9 +19,6 @@ pub entries-more : (stack : List Opener) (at : ℕ) → 0 < at → at ≤ length
 entries-more stack at h p =
     let n : at ≡ at - 1 + 1 = omega (arith, h) in
     ap (λ k. entries_in (take k stack)) n ∙ ap entries_in (take_more stack (at - 1) no_opener (omega (arith, h, p))) ∙ entries-push (take (at - 1) stack) (get_or stack (at - 1) no_opener)
-
-pub entries-long : (stack : List Opener) → length (entries_in stack) ≡ length stack
-entries-long stack = length-reverse (map entry_of stack) ∙ length-map stack entry_of
 
 pub openers-push : (stack : List Opener) (opener : Opener) → AreOpeners stack → opener.run.opens ≡ true → 1 ≤ opener.run.left → AreOpeners (stack ++ opener ∷ [])
 openers-push [] opener h o s = (o, s, tt)
@@ -98,23 +97,15 @@ with_left left x = record { number = x.number; run = record { marker = x.run.mar
 
 pub leaving-some : (stack : List Opener) (n left : ℕ) (x : Opener) → n ≡ length stack → 0 < n → 0 < left → x ≡ get_or stack (n - 1) x → entries_in (set stack (n - 1) (with_left left x)) ≡ leaving left (entries_in stack)
 leaving-some stack n left x long h some read =
+    let full : 0 < length stack = omega (arith, long, h) in
+    let front = take (length stack - 1) stack in
+    let last = get_or stack (length stack - 1) no_opener in
+    let is = get_or_read stack (length stack - 1) x (omega (arith, full)) (read ∙ ap (λ k. get_or stack (k - 1) x) long) no_opener in
     ap (λ k. entries_in (set stack (k - 1) (with_left left x))) long
     ∙ ap entries_in (stack-set stack (with_left left x) full) ∙ entries-push front (with_left left x)
     ∙ ap (λ y. entry_of (with_left left y) ∷ entries_in front) is
     ∙ sym (ap (λ l. l ++ entries_in front) (cond-false (left == 0) [] (entry_of (with_left left last) ∷ []) (ne_eqb left 0 (λ e. absurd (omega (arith, e, some))))))
     ∙ sym (ap (λ s. leaving left (entries_in s)) (stack-ends stack full) ∙ ap (leaving left) (entries-push front last))
-  where
-    full : 0 < length stack
-    full = omega (arith, long, h)
-
-    front : List Opener
-    front = take (length stack - 1) stack
-
-    last : Opener
-    last = get_or stack (length stack - 1) no_opener
-
-    is : x ≡ last
-    is = get_or_read stack (length stack - 1) x (omega (arith, full)) (read ∙ ap (λ k. get_or stack (k - 1) x) long) no_opener
 
 pub openers-set : (stack : List Opener) (at : ℕ) (y : Opener) → AreOpeners stack → y.run.opens ≡ true → 1 ≤ y.run.left → AreOpeners (set stack at y)
 openers-set [] at y h o s = tt

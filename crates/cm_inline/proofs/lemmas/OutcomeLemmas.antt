@@ -1,12 +1,8 @@
 -- What the marks of a source come to where their events stand for items.
-use Rattle.std.proofs.Common.{◌≡◌, ℕ, ◌+◌, ◌≤◌, Bool, max, List, [], length, Some, sym, ap, ◌∙◌, arith, append-nil}
-use Rattle.cm_tree.specs.Definitions.{Targets}
-use Rattle.cm_tree.specs.Depth.{inlines_depth}
-use Rattle.cm_html.specs.Html.{inlines_html}
-use Rattle.cm_scan.specs.inlines.Pairing.{Item, settled}
-use Rattle.cm_inline.specs.declared.brackets.Reader.{Reader}
+use Rattle.cm_inline.proofs.lemmas.Words.{◌≡◌, ℕ, ◌+◌, ◌≤◌, Bool, max, List, [], length, Some, sym, ap, ◌∙◌, arith, append-nil, Targets, inlines_depth, inlines_html}
+use Rattle.cm_inline.proofs.lemmas.Words.{Item, settled, Reader, rules}
 use Rattle.cm_inline.specs.steps.pairing.Events.{Event, inlines_of}
-use Rattle.cm_inline.specs.steps.pairing.Readings.{Mode, Tags, Page, page, write_all, deepest, starts_in, StandFor}
+use Rattle.cm_inline.specs.steps.pairing.Readings.{Tags, page, write_all, deepest, starts_in, StandFor, Page, Mode}
 use Rattle.cm_inline.specs.steps.pairing.States.{AreChained}
 use Rattle.cm_inline.specs.steps.Depths.{items_depth}
 use Rattle.cm_inline.specs.steps.Marks.{events_in, AreLaid}
@@ -44,10 +40,4 @@ stands-depth fs items s =
 pub stands-nests : (lines : Bool) (source : List ℕ) (targets : Targets) (reader : Reader) (items : List Item) → AreLaid lines source targets reader.runs.runs.items reader.links.items 0 (length source) reader.marks.items
     → AreChained (runs_in reader.runs.runs.items) (pairs_in reader.runs.pairs.items) → starts_in (events_in source targets reader) ≤ length reader.runs.pairs.items + length reader.links.items → StandFor (events_in source targets reader) items
     → NestsTo lines source targets reader (inlines_depth (settled items))
-stands-nests lines source targets reader items laid chained few s = record {
-  laid = laid;
-  chained = chained;
-  nests = nests-all (events_in source targets reader) items s.nests;
-  near = stands-depth (events_in source targets reader) items s;
-  few = few;
-}
+stands-nests lines source targets reader items laid chained few s = search (rules, nests-all, stands-depth)

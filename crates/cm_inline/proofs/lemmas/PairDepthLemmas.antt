@@ -1,53 +1,27 @@
 -- How deep items nest that a pass makes pairs of: none becomes less deep, and a pair is deeper than what it wraps.
-use Rattle.std.proofs.Common.{◌≡◌, ℕ, zero, suc, ◌+◌, ◌-◌, ◌<◌, ◌≤◌, Bool, true, false, cond, nat_le, max, List, [], ◌∷◌, ◌++◌, reverse, Option, Some, None, refl, sym, ap, ◌∙◌, arith, append-nil}
-use Rattle.std.proofs.lemmas.List.{reverse-append}
-use Rattle.cm_tree.specs.Depth.{depth_of, inlines_depth}
-use Rattle.cm_scan.specs.inlines.Delimiters.{Run}
-use Rattle.cm_scan.specs.inlines.Pairing.{Item, Characters, Finished, Linked, Delimiters, Opener, Opened, nearest_opener, without, used, emphasised, settled, settled_after}
-use Rattle.cm_scan.specs.inlines.OnePass.{up_to_pair, closer_left, closed_within, passed, pass_from}
-use Rattle.cm_scan.proofs.lemmas.inlines.PairingLemmas.{nearest-splits, together}
-use Rattle.cm_scan.proofs.lemmas.inlines.OnePassLemmas.{closed-none, closed-gone, closed-more, closed_by-gone, closed_by-more}
+use Rattle.cm_inline.proofs.lemmas.Words.{◌≡◌, ℕ, zero, suc, ◌-◌, ◌<◌, ◌≤◌, Bool, true, false, cond, nat_le, List, [], ◌∷◌, reverse, Option, Some, None, refl, sym, ap}
+use Rattle.cm_inline.proofs.lemmas.Words.{◌∙◌, arith, append-nil, reverse-append, inlines_depth, Run, Item, Delimiters, Opened, nearest_opener, without, used, settled}
+use Rattle.cm_inline.proofs.lemmas.Words.{up_to_pair, passed, pass_from, nearest-splits, closed_by-gone, closed_by-more, rules, nat_tests}
+use Rattle.cm_scan.specs.inlines.OnePass.{closer_left, closed_within}
+use Rattle.cm_scan.proofs.lemmas.inlines.PairingLemmas.{together}
+use Rattle.cm_scan.proofs.lemmas.inlines.OnePassLemmas.{closed-none, closed-gone, closed-more}
 use Rattle.cm_inline.specs.steps.Depths.{items_depth}
-use Rattle.cm_inline.proofs.lemmas.InlineDepthLemmas.{emphasised-depth, text-first, none-deeper}
+use Rattle.cm_inline.proofs.lemmas.InlineDepthLemmas.{emphasised-depth, both, settled-after-depth}
 use Rattle.cm_inline.proofs.lemmas.CloserLemmas.{pass-closer, pass-other}
-
-pub both : (xs ys : List Item) → items_depth (xs ++ ys) ≡ max (items_depth xs) (items_depth ys)
-both [] ys = sym (none-deeper (items_depth ys))
-both (x ∷ xs) ys = omega (arith, both xs ys)
 
 pub reverse-depth : (items : List Item) → items_depth (reverse items) ≡ items_depth items
 reverse-depth [] = refl
 reverse-depth (item ∷ items) = ap items_depth (reverse-append (item ∷ []) items) ∙ omega (arith, both (reverse items) (item ∷ []), reverse-depth items)
 
-settled-is : (text : List ℕ) (items : List Item) → inlines_depth (settled_after text items) ≡ items_depth items
-unfolding settled_after
-settled-is text [] = text-first text []
-settled-is text (Characters more ∷ items) = settled-is _ items ∙ sym (none-deeper (items_depth items))
-settled-is text (Delimiters run ∷ items) = settled-is _ items ∙ sym (none-deeper (items_depth items))
-settled-is text (Opener image source ∷ items) = settled-is _ items ∙ sym (none-deeper (items_depth items))
-settled-is text (Finished inline ∷ items) = text-first text (inline ∷ settled_after [] items) ∙ ap (λ n. max (depth_of inline) n) (settled-is [] items)
-settled-is text (Linked inline ∷ items) = text-first text (inline ∷ settled_after [] items) ∙ ap (λ n. max (depth_of inline) n) (settled-is [] items)
-
 pub settled-items : (items : List Item) → inlines_depth (settled items) ≡ items_depth items
-settled-items items = settled-is [] items
+settled-items items = settled-after-depth [] items
 
 without-depth : (n : ℕ) (run : Run) → items_depth (without n run) ≡ 0
-without-depth n run = go (nat_le run.left n)
-  where
-    go : (b : Bool) → items_depth (cond b [] (Delimiters (record run { left = run.left - n }) ∷ [])) ≡ 0
-    go true = refl
-    go false = omega arith
+without-depth n run = elim (nat_le run.left n) as (λ b. items_depth (cond b [] (Delimiters (record run { left = run.left - n }) ∷ [])) ≡ 0) [ true ↦ refl | false ↦ omega arith ]
 
 -- a pair nests deeper than what is between its runs, and no less deep than what is before
 pub pair-deeper : (found : Opened) (closer : Run) → (items_depth found.inside < items_depth (up_to_pair found closer)) × (items_depth (together found) ≤ items_depth (up_to_pair found closer))
-pair-deeper found closer =
-    let n = used found.opener closer in
-    let emphasis = emphasised closer.character n (settled found.inside) in
-    let one : depth_of emphasis ≡ items_depth found.inside + 1 = emphasised-depth closer.character n (settled found.inside) ∙ ap (λ d. d + 1) (settled-items found.inside) in
-    let up = both (found.before ++ without n found.opener) (Finished emphasis ∷ []) in
-    let front = both found.before (without n found.opener) in
-    let all = both found.before (Delimiters found.opener ∷ found.inside) in
-    (omega (arith, one, up, front), omega (arith, one, up, front, all, without-depth n found.opener))
+pair-deeper found closer = search (rules, emphasised-depth, settled-items, both, without-depth)
 
 split-depth : (before : List Item) (closer : Run) (found : Opened) → nearest_opener closer before [] ≡ Some found → items_depth before ≤ items_depth (up_to_pair found closer)
 split-depth before closer found s =
@@ -81,15 +55,7 @@ closer-deeper before closer found h s = go (nat_le closer.left (used found.opene
         omega (arith, more, ap items_depth (pass-closer before closer h ∙ closed_by-more before closer found s k), closed-deeper (suc (closer_left found closer).left) (reverse (up_to_pair found closer)) (closer_left found closer))
 
 pub passed-deeper : (before : List Item) (item : Item) → items_depth before ≤ items_depth (passed before item)
-passed-deeper before (Characters t) = omega arith
-passed-deeper before (Finished i) = omega arith
-passed-deeper before (Linked i) = omega arith
-passed-deeper before (Opener b s) = omega arith
-passed-deeper before (Delimiters run) = go run.closes refl
-  where
-    go : (b : Bool) → run.closes ≡ b → items_depth before ≤ items_depth (passed before (Delimiters run))
-    go true h = omega (arith, ap items_depth (pass-closer before run h), closed-deeper (suc run.left) before run)
-    go false h = omega (arith, ap items_depth (pass-other before run h))
+passed-deeper before item = grind (arith, nat_tests, pass-closer, closed-deeper, pass-other)
 
 -- the items that follow take nothing of it
 pub pass-deeper : (before after : List Item) → items_depth before ≤ items_depth (pass_from before after)

@@ -1,15 +1,11 @@
 -- What a pass begins with, and numbers that rise from one part to the next.
-use Rattle.std.proofs.Common.{◌≡◌, ℕ, zero, suc, ◌≤◌, false, List, [], ◌∷◌, ◌++◌, length, take, drop, get_or, replicate, refl, sym, subst, arith}
-use Rattle.std.proofs.lemmas.List.Sums.{sum_by-cons}
-use Rattle.cm_scan.specs.inlines.Pairing.{Item, Characters, Finished, Linked, Delimiters, Opener}
-use Rattle.cm_scan.specs.inlines.OnePass.{passed}
-use Rattle.cm_inline.specs.Closers.{all_kinds}
+use Rattle.cm_inline.proofs.lemmas.Words.{◌≡◌, ℕ, suc, ◌≤◌, false, List, [], ◌∷◌, ◌++◌, length, take, drop, get_or, refl, arith, sum_by-cons, Item, passed, rules}
+use Rattle.cm_inline.proofs.lemmas.Words.{nat_tests}
 use Rattle.cm_inline.specs.steps.Entries.{above, reserve}
 use Rattle.cm_inline.specs.steps.Openers.{spent, zeros}
 use Rattle.cm_inline.specs.steps.pairing.ClosingRuns.{AreUnder, State, PartsHold}
-use Rattle.cm_inline.specs.steps.pairing.Events.{Event, Text, Rest, Whole, Start, End}
+use Rattle.cm_inline.specs.steps.pairing.Events.{Event, Rest}
 use Rattle.cm_inline.specs.steps.pairing.Parts.{Pair, PairedRun, Part, Numbered, Known, ends, events_of, Rising}
-use Rattle.cm_inline.specs.steps.pairing.Readings.{StandFor}
 use Rattle.cm_inline.specs.steps.pairing.Segments.{is_run}
 use Rattle.cm_inline.specs.steps.pairing.Stacks.{NoneOpens}
 use Rattle.cm_inline.proofs.lemmas.ClosingLemmas.{AreLow, rising-front, drop-all}
@@ -22,34 +18,22 @@ rising-behind-of low fs gs h = go fs low h
     lower : (n m : ℕ) (gs : List Event) → n ≤ m → Rising m gs → Rising n gs
     lower n m [] p h = tt
     lower n m (Rest k r ∷ gs) p h = (omega (arith, p, h.0), h.1)
-    lower n m (Text t ∷ gs) p h = lower n m gs p h
-    lower n m (Whole t ∷ gs) p h = lower n m gs p h
-    lower n m (Start t ∷ gs) p h = lower n m gs p h
-    lower n m (End t ∷ gs) p h = lower n m gs p h
+    lower n m (_ ∷ gs) p h = lower n m gs p h
 
     go : (fs : List Event) (low : ℕ) → Rising low (fs ++ gs) → Rising low gs
     go [] low h = h
     go (Rest k r ∷ fs) low h = lower low (suc k) gs (omega (arith, h.0)) (go fs (suc k) h.1)
-    go (Text t ∷ fs) low h = go fs low h
-    go (Whole t ∷ fs) low h = go fs low h
-    go (Start t ∷ fs) low h = go fs low h
-    go (End t ∷ fs) low h = go fs low h
+    go (_ ∷ fs) low h = go fs low h
 
 pub rising-lower : (n m : ℕ) (gs : List Event) → n ≤ m → Rising m gs → Rising n gs
 rising-lower n m [] p h = tt
 rising-lower n m (Rest k r ∷ gs) p h = (omega (arith, p, h.0), h.1)
-rising-lower n m (Text t ∷ gs) p h = rising-lower n m gs p h
-rising-lower n m (Whole t ∷ gs) p h = rising-lower n m gs p h
-rising-lower n m (Start t ∷ gs) p h = rising-lower n m gs p h
-rising-lower n m (End t ∷ gs) p h = rising-lower n m gs p h
+rising-lower n m (_ ∷ gs) p h = rising-lower n m gs p h
 
 pub rising-join : (low n : ℕ) (fs gs : List Event) → low ≤ n → Rising low fs → AreLow n fs → Rising n gs → Rising low (fs ++ gs)
 rising-join low n [] gs p h a g = rising-lower low n gs p g
 rising-join low n (Rest k r ∷ fs) gs p h a g = (h.0, rising-join (suc k) n fs gs (omega (arith, a.0)) h.1 a.1 g)
-rising-join low n (Text t ∷ fs) gs p h a g = rising-join low n fs gs p h a g
-rising-join low n (Whole t ∷ fs) gs p h a g = rising-join low n fs gs p h a g
-rising-join low n (Start t ∷ fs) gs p h a g = rising-join low n fs gs p h a g
-rising-join low n (End t ∷ fs) gs p h a g = rising-join low n fs gs p h a g
+rising-join low n (_ ∷ fs) gs p h a g = rising-join low n fs gs p h a g
 
 -- the next number may be a higher one
 under-more : (n m : ℕ) (ms : List Part) → n ≤ m → AreUnder n ms → AreUnder m ms
@@ -67,23 +51,14 @@ pub rising-done : (done : List Part) (s : State) (before : List Item) → PartsH
 rising-done done s before w = rising-front 0 (events_of s.runs s.pairs done) (ends (drop (length s.pairs) s.pairs)) w.rising
 
 pub not-run : (before : List Item) (item : Item) → is_run item ≡ false → passed before item ≡ item ∷ before
-not-run before (Characters t) h = refl
-not-run before (Finished i) h = refl
-not-run before (Linked i) h = refl
-not-run before (Opener b t) h = refl
-not-run before (Delimiters r) h = absurd (cc h)
+not-run before item h = grind (arith, nat_tests)
 
 -- at first nothing waits, and no bottom is known
 abbrev pub beginning : List PairedRun → List Pair → (looks next : ℕ) → State
 beginning runs pairs looks next = record { runs = runs; pairs = pairs; list = record { entries = []; looks = looks; next = next }; bottoms = zeros }
 
 pub zeros-zero : (k : ℕ) → get_or zeros k 0 ≤ 0
-zeros-zero k = go all_kinds k
-  where
-    go : (n k : ℕ) → get_or (replicate n 0) k 0 ≤ 0
-    go zero k = omega arith
-    go (suc n) zero = omega arith
-    go (suc n) (suc k) = go n k
+zeros-zero k = search rules
 
 no-looks : (bottoms : List ℕ) → reserve bottoms [] ≡ 0
 unfolding reserve
@@ -95,17 +70,4 @@ nothing-spent kinds looks low = omega (arith, no-looks (take kinds zeros))
 
 pub holds-nothing : (runs : List PairedRun) (pairs : List Pair) (looks next : ℕ) → PartsHold [] (length pairs) (beginning runs pairs looks next) []
 unfolding events_of NoneOpens
-holds-nothing runs pairs looks next = record {
-  waits = record {
-    stacked = (subst (λ t. StandFor (ends t) []) (sym (drop-all pairs)) reads-none, tt);
-    falling = tt;
-    under = tt;
-    size = refl;
-    low = λ k. (let z = zeros-zero k in omega (arith, z));
-    sound = λ c m h. tt;
-  };
-  marked = tt;
-  under = tt;
-  rising = subst (λ t. Rising 0 (ends t)) (sym (drop-all pairs)) tt;
-  early = omega arith;
-}
+holds-nothing runs pairs looks next = search (rules, drop-all, reads-none, zeros-zero)

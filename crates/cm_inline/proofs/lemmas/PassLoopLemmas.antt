@@ -1,15 +1,11 @@
 -- The loop of a pass over the code's numbers.
-use Rattle.std.proofs.Common.{◌≡◌, ◌⊎◌, inl, inr, ℕ, zero, suc, ◌+◌, ◌^◌, ◌<◌, ◌≤◌, List, [], ◌∷◌, ◌++◌, length, take, drop, get_or, refl, sym, ap, subst, ◌∙◌, arith, append_assoc}
-use Rattle.std.proofs.lemmas.List.{get_or-map, length-map, drop_more, drop_all, take_all, take-append-le, drop-append-le}
-use Rattle.std.proofs.lemmas.List.Sums.{sum_by-cons}
-use Rattle.cm_scan.specs.inlines.Pairing.{Item, Delimiters, pair_all}
-use Rattle.cm_scan.specs.inlines.OnePass.{passed}
+use Rattle.cm_inline.proofs.lemmas.Words.{◌≡◌, inl, inr, ℕ, zero, suc, ◌+◌, ◌^◌, ◌<◌, ◌≤◌, List, [], ◌∷◌, ◌++◌, length, take, drop, get_or, refl, sym, ap, subst, ◌∙◌}
+use Rattle.cm_inline.proofs.lemmas.Words.{arith, append_assoc, get_or-map, length-map, drop_more, drop_all, take_all, take-append-le, drop-append-le, sum_by-cons}
+use Rattle.cm_inline.proofs.lemmas.Words.{Item, Delimiters, pair_all, passed, HeldRun, Runs, rules}
 use Rattle.cm_inline.specs.Closers.{all_kinds}
-use Rattle.cm_inline.specs.declared.runs.Run.{Run as HeldRun}
-use Rattle.cm_inline.specs.declared.runs.Runs.{Runs}
 use Rattle.cm_inline.specs.steps.pairing.ClosingRuns.{AreUnder, State, RunComes, PassGoesOn}
 use Rattle.cm_inline.specs.steps.pairing.Events.{Event}
-use Rattle.cm_inline.specs.steps.pairing.Parts.{Pair, Part, PairedRun, no_run as no_paired_run, events_of}
+use Rattle.cm_inline.specs.steps.pairing.Parts.{Part, PairedRun, no_run as no_paired_run, events_of}
 use Rattle.cm_inline.specs.steps.pairing.Passes.{number_after, paid_by, AreNumbers, CanPass, WaitFrom, AllPaired}
 use Rattle.cm_inline.specs.steps.pairing.Readings.{starts_in}
 use Rattle.cm_inline.specs.steps.pairing.Segments.{Segment, Waiting, items_in, all_parts, numbers_in, AreSegments}
@@ -62,8 +58,7 @@ numbers-drop low high zero (k ∷ ns) h a = (omega arith, a.1, a.2)
 numbers-drop low high (suc n) (k ∷ ns) h a = numbers-drop (k + 1) high n ns (omega (arith, h)) a.2
 
 ready-none : (looks n : ℕ) (entries : List Entry) → entries ≡ [] → IsReady (record { entries = entries; looks = looks; next = n }) zeros
-ready-none looks n entries e =
-    subst (λ es. IsReady (record { entries = es; looks = looks; next = n }) zeros) (sym e) (record { falling = tt; under = tt; size = refl; low = λ k. (let z = zeros-zero k in omega (arith, z)) })
+ready-none looks n entries e = search (rules, zeros-zero)
 
 pub passing-first : (old : Runs) (openers : Stack) (from : ℕ) → from < length old.waiting.items → CanPass from old → openers.entries ≡ [] → openers.looks ≡ old.openers.looks → Passing old (record old { openers = openers }) zeros from from
 passing-first old openers from more can e k = record {
@@ -96,30 +91,14 @@ reaching-first old openers from front inside a e k =
     let n = number_after 0 front in
     let s = (segments-split 0 (runs_in old.runs.items) (pairs_in old.pairs.items) front inside a.segments).1 in
     let r = reached-first (runs_in old.runs.items) (pairs_in old.pairs.items) old.openers.looks n inside s a.marked in
-    record {
-      next = n;
-      done = [];
-      ahead = inside;
-      before = [];
-      left = sym (inside-waits from old front inside a);
-      reached = subst (λ es. Reached old.openers.looks inside (record { runs = runs_in old.runs.items; pairs = pairs_in old.pairs.items; list = record { entries = es; looks = openers.looks; next = n }; bottoms = zeros }) [] inside []) (sym e)
-          (subst (λ l. Reached old.openers.looks inside (record { runs = runs_in old.runs.items; pairs = pairs_in old.pairs.items; list = record { entries = []; looks = l; next = n }; bottoms = zeros }) [] inside []) (sym k) r);
-      starts = omega arith;
-    }
+    search (rules, n, inside, (sym (inside-waits from old front inside a)),
+        (subst (λ es. Reached old.openers.looks inside (record { runs = runs_in old.runs.items; pairs = pairs_in old.pairs.items; list = record { entries = es; looks = openers.looks; next = n }; bottoms = zeros }) [] inside []) (sym e)
+            (subst (λ l. Reached old.openers.looks inside (record { runs = runs_in old.runs.items; pairs = pairs_in old.pairs.items; list = record { entries = []; looks = l; next = n }; bottoms = zeros }) [] inside []) (sym k) r)))
 
 -- a run
 
 grows-both : (low mid high : ℕ) (a b c : State) → mid ≤ high → Grows low mid a b → Grows low high b c → Grows low high a c
-grows-both low mid high a b c h g f = record {
-  long = f.long ∙ g.long;
-  others = λ k o. f.others k o ∙ g.others k (wider k o);
-  added = g.added ++ f.added;
-  pairs = f.pairs ∙ ap (λ ps. ps ++ f.added) g.pairs ∙ append_assoc a.pairs g.added f.added;
-}
-  where
-    wider : (k : ℕ) → (k < low) ⊎ (high ≤ k) → (k < low) ⊎ (mid ≤ k)
-    wider k (inl o) = inl o
-    wider k (inr o) = inr (omega (arith, o, h))
+grows-both low mid high a b c h g f = search (rules, append_assoc)
 
 same-both : (a b c : List HeldRun) → SameRuns a b → SameRuns b c → SameRuns a c
 same-both a b c s t = record { long = t.long ∙ s.long; same = λ n. ((t.same n).0 ∙ (s.same n).0, (t.same n).1 ∙ (s.same n).1) }
@@ -145,28 +124,23 @@ can-step old new bs from at number can p e =
 
 pub passing-step : (old new now : Runs) (bs cs : List ℕ) (from at number : ℕ) → (p : Passing old new bs from at) → drop at old.waiting.items ≡ number ∷ drop (at + 1) old.waiting.items
     → RunSteps new now bs cs number (number + 1) (all_kinds + 1 + (run_at new.runs.items number).run.left) → Passing old now cs from (at + 1)
-passing-step old new now bs cs from at number p e s = record {
-  next = number + 1;
-  waiting = s.waiting ∙ p.waiting;
-  ahead = a.2;
-  ready = s.ready;
-  begun = omega (arith, p.begun, a.0);
-  above = g.0;
-  grows = grows-both (first_from old from) p.next (number + 1) (state_of old zeros 0) (state_of new bs p.next) (state_of now cs (number + 1)) (omega (arith, a.0)) p.grows (record { long = g.1.long; others = g.1.others; added = g.1.added; pairs = g.1.pairs });
-  same = same-both old.runs.items new.runs.items now.runs.items p.same s.same;
-  chained = λ c. s.chained (p.chained c);
-  paid = omega (arith, p.paid, s.paid, left, ap (paid_by old.runs.items) e, sum_by-cons (λ number. all_kinds + 1 + (run_at old.runs.items number).run.left) number (drop (at + 1) old.waiting.items));
-}
-  where
-    a : AreNumbers p.next (length old.runs.items) (number ∷ drop (at + 1) old.waiting.items)
-    a = subst (AreNumbers p.next (length old.runs.items)) e p.ahead
-
-    g : EntriesFrom (first_from old from) now.openers.entries × Grows (first_from old from) (number + 1) (state_of new bs number) (state_of now cs (number + 1))
-    g = s.grows (first_from old from) (omega (arith, p.begun, a.0)) p.above
-
-    left : (run_at new.runs.items number).run.left ≡ (run_at old.runs.items number).run.left
-    left = ap (λ (r : PairedRun). r.run.left)
-        (sym (get_or-map paired_run new.runs.items number no_run no_paired_run (omega (arith, a.1, p.same.long))) ∙ p.grows.others number (inr a.0) ∙ get_or-map paired_run old.runs.items number no_run no_paired_run a.1)
+passing-step old new now bs cs from at number p e s =
+    let a = subst (AreNumbers p.next (length old.runs.items)) e p.ahead in
+    let g = s.grows (first_from old from) (omega (arith, p.begun, a.0)) p.above in
+    let left = ap (λ (r : PairedRun). r.run.left)
+        (sym (get_or-map paired_run new.runs.items number no_run no_paired_run (omega (arith, a.1, p.same.long))) ∙ p.grows.others number (inr a.0) ∙ get_or-map paired_run old.runs.items number no_run no_paired_run a.1) in
+    record {
+      next = number + 1;
+      waiting = s.waiting ∙ p.waiting;
+      ahead = a.2;
+      ready = s.ready;
+      begun = omega (arith, p.begun, a.0);
+      above = g.0;
+      grows = grows-both (first_from old from) p.next (number + 1) (state_of old zeros 0) (state_of new bs p.next) (state_of now cs (number + 1)) (omega (arith, a.0)) p.grows (record { long = g.1.long; others = g.1.others; added = g.1.added; pairs = g.1.pairs });
+      same = same-both old.runs.items new.runs.items now.runs.items p.same s.same;
+      chained = λ c. s.chained (p.chained c);
+      paid = omega (arith, p.paid, s.paid, left, ap (paid_by old.runs.items) e, sum_by-cons (λ number. all_kinds + 1 + (run_at old.runs.items number).run.left) number (drop (at + 1) old.waiting.items));
+    }
 
 pub reaching-step : (old new now : Runs) (bs cs : List ℕ) (inside : List Segment) (low number : ℕ) (numbers : List ℕ) → Reaching old new bs inside (number ∷ numbers)
     → ((parts : List Part) (had : List Item) → RunComes parts (state_of new bs number) (run_of (run_at new.runs.items number).run) had → IsFresh new.runs.items number → PassGoesOn parts (state_of new bs number) (run_of (run_at new.runs.items number).run) had (state_of now cs (number + 1)) number)
@@ -211,32 +185,18 @@ pub passes-at : (old new : Runs) (from next : ℕ) (front inside : List Segment)
     → Reached old.openers.looks inside (record { runs = runs_in new.runs.items; pairs = pairs_in new.pairs.items; list = record { entries = entries; looks = new.openers.looks; next = next }; bottoms = bs }) inside [] before
     → AreSegments (runs_in new.runs.items) (pairs_in new.pairs.items) 0 front → events_in new front ≡ events_in old front → starts_in (events_in new inside) + length old.pairs.items ≤ starts_in (events_in old inside) + length new.pairs.items
     → new.waiting.items ≡ take from old.waiting.items → AllPaired old new front inside
-passes-at old new from next front inside before entries bs a r stays same starts w = record {
-  front_stays = stays;
-  front_same = same;
-  reads = end-stands old.openers.looks inside s before r;
-  parts = r.holds.marked;
-  rising = rising-raised n 0 runs pairs (all_parts inside) (all-parts (λ k. n ≤ k) inside (segments-from n n (runs_in old.runs.items) (pairs_in old.pairs.items) inside (omega arith) behind)) r.holds.marked (rising-done (all_parts inside) s before r.holds);
-  under = subst (λ k. AreUnder k (all_parts inside)) (length-map new.runs.items paired_run) (parts-under runs pairs (all_parts inside) r.holds.marked);
-  starts = starts;
-  waiting = w ∙ ap (take from) a.waiting ∙ take-append-le from (numbers_in front) (numbers_in inside) (omega (arith, a.place)) ∙ take_all from (numbers_in front) (omega (arith, a.place));
-  looks = end-looks old.openers.looks inside s before r;
-}
-  where
-    n : ℕ
-    n = number_after 0 front
-
-    runs : List PairedRun
-    runs = runs_in new.runs.items
-
-    pairs : List Pair
-    pairs = pairs_in new.pairs.items
-
-    s : State
-    s = record { runs = runs; pairs = pairs; list = record { entries = entries; looks = new.openers.looks; next = next }; bottoms = bs }
-
-    behind : AreSegments (runs_in old.runs.items) (pairs_in old.pairs.items) n inside
-    behind = (segments-split 0 (runs_in old.runs.items) (pairs_in old.pairs.items) front inside a.segments).1
+passes-at old new from next front inside before entries bs a r stays same starts w =
+    let n = number_after 0 front in
+    let runs = runs_in new.runs.items in
+    let pairs = pairs_in new.pairs.items in
+    let s : State = record { runs = runs; pairs = pairs; list = record { entries = entries; looks = new.openers.looks; next = next }; bottoms = bs } in
+    let behind : AreSegments (runs_in old.runs.items) (pairs_in old.pairs.items) n inside = (segments-split 0 (runs_in old.runs.items) (pairs_in old.pairs.items) front inside a.segments).1 in
+    search (rules, stays, same, (end-stands old.openers.looks inside s before r),
+        (rising-raised n 0 runs pairs (all_parts inside) (all-parts (λ k. n ≤ k) inside
+            (segments-from n n (runs_in old.runs.items) (pairs_in old.pairs.items) inside (omega arith) behind)) r.holds.marked (rising-done (all_parts inside) s before r.holds)),
+        (subst (λ k. AreUnder k (all_parts inside)) (length-map new.runs.items paired_run) (parts-under runs pairs (all_parts inside) r.holds.marked)), starts,
+        (w ∙ ap (take from) a.waiting ∙ take-append-le from (numbers_in front) (numbers_in inside) (omega (arith, a.place)) ∙ take_all from (numbers_in front) (omega (arith, a.place))),
+        (end-looks old.openers.looks inside s before r))
 
 -- where nothing waits
 pub passes-none : (old : Runs) (from : ℕ) (front inside : List Segment) → from ≡ length old.waiting.items → WaitFrom from old front inside → AllPaired old old front inside

@@ -1,17 +1,9 @@
 -- The looks for which a source that is read up to a place pays.
-use Rattle.std.proofs.Common.{◌≡◌, ℕ, zero, ◌+◌, ◌*◌, ◌^◌, ◌<◌, ◌≤◌, Bool, true, false, List, [], ◌∷◌, ◌++◌, length, take, drop, get_or, reverse, Some, refl, sym, ap, subst, ◌∙◌, arith}
-use Rattle.std.specs.Prelude.{nat_lt, if◌then◌else◌}
-use Rattle.std.specs.List.{slice_range}
-use Rattle.std.proofs.lemmas.List.{append-nil, drop_more, reverse-append}
-use Rattle.std.proofs.lemmas.List.Sums.{sum_by-append, sum_by-cons}
-use Rattle.std.proofs.lemmas.Option.{same_Some}
-use Rattle.cm_text.specs.Rules.{Rules}
-use Rattle.cm_scan.specs.inlines.Atoms.{Atom, Plain, Whole, Delimiter, OpenBracket, CloseBracket, markup_atom, atom_at}
-use Rattle.cm_scan.specs.inlines.Brackets.{Bracketed, Defined}
-use Rattle.cm_scan.specs.inlines.Delimiters.{Run}
-use Rattle.cm_scan.specs.inlines.Inlines.{with_item, item_step}
+use Rattle.cm_inline.proofs.lemmas.Words.{◌≡◌, ℕ, zero, ◌+◌, ◌*◌, ◌^◌, ◌<◌, ◌≤◌, Bool, true, false, List, [], ◌∷◌, ◌++◌, length, take, drop, get_or, reverse, Some}
+use Rattle.cm_inline.proofs.lemmas.Words.{refl, sym, ap, subst, ◌∙◌, arith, nat_lt, if◌then◌else◌, slice_range, drop_more, reverse-append, sum_by-append, sum_by-cons}
+use Rattle.cm_inline.proofs.lemmas.Words.{same_Some, Rules, Atom, markup_atom, atom_at, Defined, Run, with_item, item_step, one_by_one, nat_tests, rules}
+use Rattle.std.proofs.lemmas.List.{append-nil}
 use Rattle.cm_scan.specs.inlines.Pairing as items
-use Rattle.cm_scan.specs.inlines.Pieces.{one_by_one}
 use Rattle.cm_scan.specs.inlines.DelimiterRuns.{run_in, runs_after, runs_of, characters_of}
 use Rattle.cm_scan.proofs.lemmas.inlines.DelimiterRuns.{runs-go-on, runs-behind-text, runs-in-pieces, runs_are_few}
 use Rattle.cm_inline.specs.Closers.{all_kinds, kinds_with, kinds_by}
@@ -35,12 +27,7 @@ step-counts rules defined source so_far more at end within further gives =
     let taken = slice_range source (at + 1) end in
     let behind : drop (at + 1) source ≡ taken ++ drop end source = slice-front source (at + 1) end (omega (arith, further)) in
     let own = run_in (atom_in rules source at).atom in
-    ap (λ t. characters_of (runs_after rules defined zero before t items)) (drop_more source at 0 within ∙ ap (λ t. b ∷ t) behind)
-    ∙ ap characters_of (runs-go-on rules defined before b taken (drop end source) items (ap (λ t. (item_step rules defined before b t items).rest) (sym behind) ∙ ap (λ (s : Bracketed). s.rest) gives))
-    ∙ ap (λ t. characters_of (run_in (atom_at rules before b t).atom ++ runs_after rules defined zero (reverse taken ++ b ∷ before) (drop end source) (item_step rules defined before b t items).items)) (sym behind)
-    ∙ ap (λ p. characters_of (own ++ runs_after rules defined zero p (drop end source) (step_at rules defined source at items).items)) (before-one source at end further within)
-    ∙ ap (λ (s : Bracketed). characters_of (own ++ runs_after rules defined zero (reverse (take end source)) (drop end source) s.items)) gives
-    ∙ sum_by-append (λ (run : Run). run.whole) own (runs_after rules defined zero (reverse (take end source)) (drop end source) (reverse more))
+    grind (arith, nat_tests, drop_more, runs-go-on, step_at, before-one, sum_by-append)
 
 text-on : (rules : Rules) (defined : Defined) (source : List ℕ) (so_far : List items.Item) (at end : ℕ) → IsTextTo source at end
     → characters_ahead rules defined source (so_far ++ items.Characters (slice_range source at end) ∷ []) end ≡ characters_ahead rules defined source so_far at
@@ -62,35 +49,22 @@ looks_with strike = kinds_with strike + 2
 -- the sum of what is paid, where the given number of looks are allowed for each character
 one-more : (strike : Bool) (looks paid own whole ahead later total : ℕ) → looks + paid + looks_with strike * ahead ≤ looks_with strike * total → ahead ≡ whole + later → own ≤ looks_with strike * whole
     → looks + (paid + own) + looks_with strike * later ≤ looks_with strike * total
-one-more true looks paid own whole ahead later total p e f = omega (arith, p, e, f)
-one-more false looks paid own whole ahead later total p e f = omega (arith, p, e, f)
+one-more strike looks paid own whole ahead later total p e f = grind (arith, nat_tests)
 
 -- a new item
 new-is : (kinds : ℕ) (item : items.Item) → IsNew kinds item → IsOf kinds item × (item_emphases item ≡ 0)
-new-is kinds (items.Characters text) fresh = (tt, refl)
-new-is kinds (items.Finished inline) fresh = (tt, fresh)
-new-is kinds (items.Linked inline) fresh = (tt, fresh)
-new-is kinds (items.Delimiters run) fresh = (fresh.0, refl)
-new-is kinds (items.Opener image behind) fresh = (tt, refl)
+new-is kinds item fresh = grind (arith, nat_tests)
 
 run-pays : (strike : Bool) (run : Run) → IsNew (kinds_with strike) (items.Delimiters run) → allowed (kinds_with strike) (items.Delimiters run) ≤ looks_with strike * characters_of (run ∷ [])
-run-pays true run fresh = omega (arith, fresh.1, fresh.2, sum_by-cons (λ (r : Run). r.whole) run [])
-run-pays false run fresh = omega (arith, fresh.1, fresh.2, sum_by-cons (λ (r : Run). r.whole) run [])
+run-pays strike run fresh = grind (arith, nat_tests, sum_by-cons)
 
 atom-pays : (strike : Bool) (a : Atom) (rest : List ℕ) (item : items.Item) → item_for a rest ≡ Some item → IsNew (kinds_with strike) item → allowed (kinds_with strike) item ≤ looks_with strike * characters_of (run_in a)
-atom-pays strike (Plain text) rest item e fresh = let none = ap (allowed (kinds_with strike)) (same_Some (items.Characters text) item e) in omega (arith, none)
-atom-pays strike (Whole inline) rest item e fresh = let none = ap (allowed (kinds_with strike)) (same_Some (items.Finished inline) item e) in omega (arith, none)
-atom-pays strike (Delimiter run) rest item e fresh =
-    let is = same_Some (items.Delimiters run) item e in
-    subst (λ i. allowed (kinds_with strike) i ≤ looks_with strike * characters_of (run ∷ [])) is (run-pays strike run (subst (IsNew (kinds_with strike)) (sym is) fresh))
-atom-pays strike (OpenBracket image) rest item e fresh = let none = ap (allowed (kinds_with strike)) (same_Some (items.Opener image rest) item e) in omega (arith, none)
-atom-pays strike CloseBracket rest item e fresh = absurd (cc e)
+atom-pays strike a rest item e fresh = grind (arith, nat_tests, same_Some, run-pays)
 
 -- nothing is read yet
 pub nothing-pays : (rules : Rules) (defined : Defined) (source : List ℕ) (so_far : List items.Item) (looks : ℕ) → so_far ≡ [] → looks ≡ 0 → Pays rules defined source so_far 0 looks
 unfolding runs_of
-nothing-pays rules defined source so_far looks none first =
-    subst (λ t. Pays rules defined source t 0 looks) (sym none) (subst (Pays rules defined source [] 0) (sym first) (record { are = tt; paid = omega arith; made = omega arith }))
+nothing-pays rules defined source so_far looks none first = grind (arith, nat_tests)
 
 -- text more
 pub text-pays : (rules : Rules) (defined : Defined) (source : List ℕ) (so_far : List items.Item) (at end looks : ℕ) → IsTextTo source at end → Pays rules defined source so_far at looks → Pays rules defined source (so_far ++ text_items source at end) end looks
@@ -133,8 +107,7 @@ atom-more-pays rules defined source so_far at item end looks within is p =
 -- what a `]` makes, with looks that are paid for
 closing-pays : (strike : Bool) (looks later before after ahead total : ℕ) → looks + before + looks_with strike * ahead ≤ looks_with strike * total → later + after ≤ looks + before
     → later + after + looks_with strike * ahead ≤ looks_with strike * total
-closing-pays true looks later before after ahead total p e = omega (arith, p, e)
-closing-pays false looks later before after ahead total p e = omega (arith, p, e)
+closing-pays strike looks later before after ahead total p e = grind (arith, nat_tests)
 
 none-in-bracket : (rules : Rules) (source : List ℕ) (at : ℕ) → Stands source at 93 → characters_of (run_in (atom_in rules source at).atom) ≡ 0
 unfolding atom_at markup_atom
@@ -142,33 +115,19 @@ none-in-bracket rules source at stands = ap (λ b. characters_of (run_in (atom_a
 
 pub closed-pays : (rules : Rules) (defined : Defined) (source : List ℕ) (so_far more : List items.Item) (at end looks later : ℕ) → Stands source at 93 → Pays rules defined source so_far at looks
     → at < end → Keeps looks so_far later more → closed_at rules defined source so_far at ≡ record { items = reverse more; rest = drop end source } → Pays rules defined source more end later
-closed-pays rules defined source so_far more at end looks later stands p further keeps closed =
-    let counts = step-counts rules defined source so_far more at end stands.within further (bracket-at rules defined source so_far at stands ∙ closed) in
-    let same : characters_ahead rules defined source so_far at ≡ characters_ahead rules defined source more end = omega (arith, counts, none-in-bracket rules source at stands) in
-    record {
-      are = keeps.are (kinds_by rules) p.are;
-      paid = closing-pays rules.strike looks later (allowance (kinds_by rules) so_far) (allowance (kinds_by rules) more) (characters_ahead rules defined source more end) (characters_of (runs_of rules defined source))
-          (subst (λ n. looks + allowance (kinds_by rules) so_far + looks_at_most rules * n ≤ looks_at_most rules * characters_of (runs_of rules defined source)) same p.paid) (keeps.paid (kinds_by rules) p.are);
-      made = omega (arith, keeps.made, p.made);
-    }
+closed-pays rules defined source so_far more at end looks later stands p further keeps closed = grind (arith, nat_tests, step-counts, bracket-at, none-in-bracket, closing-pays)
 
 -- what is paid for is little
 
 allowed-twice : (strike : Bool) (item : items.Item) → allowed all_kinds item ≤ 2 * allowed (kinds_with strike) item
-allowed-twice strike (items.Characters text) = omega arith
-allowed-twice strike (items.Finished inline) = omega arith
-allowed-twice strike (items.Linked inline) = omega arith
-allowed-twice true (items.Delimiters run) = omega arith
-allowed-twice false (items.Delimiters run) = omega arith
-allowed-twice strike (items.Opener image behind) = omega arith
+allowed-twice strike item = grind (arith, nat_tests)
 
 twice : (strike : Bool) (all : List items.Item) → allowance all_kinds all ≤ 2 * allowance (kinds_with strike) all
 twice strike [] = omega arith
 twice strike (item ∷ all) = omega (arith, sum_by-cons (allowed all_kinds) item all, sum_by-cons (allowed (kinds_with strike)) item all, allowed-twice strike item, twice strike all)
 
 few-of : (strike : Bool) (looks paid ahead total size : ℕ) → looks + paid + looks_with strike * ahead ≤ looks_with strike * total → total ≤ size → size < 2 ^ 64 → looks + 2 * paid < 2 ^ 127
-few-of true looks paid ahead total size p low small = omega (arith, p, low, small)
-few-of false looks paid ahead total size p low small = omega (arith, p, low, small)
+few-of strike looks paid ahead total size p low small = grind (arith, nat_tests)
 
 pub pays-few : (rules : Rules) (defined : Defined) (source : List ℕ) (so_far : List items.Item) (at looks : ℕ) → Pays rules defined source so_far at looks → length source < 2 ^ 64 → looks + allowance all_kinds so_far < 2 ^ 127
 pays-few rules defined source so_far at looks p small =
@@ -176,11 +135,9 @@ pays-few rules defined source so_far at looks p small =
     omega (arith, few, twice rules.strike so_far)
 
 most-of : (strike : Bool) (looks paid ahead total : ℕ) → looks + paid + looks_with strike * ahead ≤ looks_with strike * total → looks + paid ≤ looks_with strike * total
-most-of true looks paid ahead total p = omega (arith, p)
-most-of false looks paid ahead total p = omega (arith, p)
+most-of strike looks paid ahead total p = grind (arith, nat_tests)
 
 -- so the looks are no more than the runs allow
 pub pays-most : (rules : Rules) (defined : Defined) (source : List ℕ) (so_far : List items.Item) (at looks : ℕ) → Pays rules defined source so_far at looks
     → looks + allowance (kinds_by rules) so_far ≤ looks_at_most rules * characters_of (runs_of rules defined source)
-pays-most rules defined source so_far at looks p =
-    most-of rules.strike looks (allowance (kinds_by rules) so_far) (characters_ahead rules defined source so_far at) (characters_of (runs_of rules defined source)) p.paid
+pays-most rules defined source so_far at looks p = search most-of

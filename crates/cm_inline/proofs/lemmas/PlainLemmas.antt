@@ -1,24 +1,15 @@
 -- Lines of text with soft line breaks between them.
-use Rattle.std.proofs.Common.{◌≡◌, ℕ, zero, ◌+◌, ◌-◌, ◌<◌, ◌≤◌, ◌==◌, Bool, true, false, List, [], ◌∷◌, ◌++◌, length, take, drop, get_or, map, reverse, None, codes, refl, sym, ap, ◌∙◌, arith, append_assoc, take-add, take_all}
-use Rattle.std.specs.Prelude.{nat_lt, if◌then◌else◌}
-use Rattle.std.specs.List.{list_all, slice_range}
-use Rattle.std.proofs.lemmas.Bool.{and_parts, eqb-true}
-use Rattle.std.proofs.lemmas.Bool.Decides.{nat_tests}
-use Rattle.std.proofs.lemmas.List.{drop_all, drop_more, map-append, reverse-append, reverse-reverse}
-use Rattle.std.proofs.lemmas.Grind.{flat_map-append}
-use Rattle.cm_text.specs.Rules.{Rules}
-use Rattle.cm_tree.specs.Depth.{inlines_depth}
-use Rattle.cm_tree.specs.declared.tree.Inline.TheFolds.{fold_out-Inline}
-use Rattle.cm_tree.specs.declared.tree.Inline.TheVariants.{Soft, outs-Soft}
-use Rattle.cm_html.specs.Escape.{escape_byte, escape}
-use Rattle.cm_html.specs.Html.{Rendered, inline_step, inlines_html, rendered}
-use Rattle.cm_scan.specs.inlines.Pairing.{Item, Characters, Finished, settled_after, settled, pair_leftmost, pair_all}
-use Rattle.cm_scan.specs.inlines.Pieces.{one_by_one}
-use Rattle.cm_scan.specs.inlines.Brackets.{Defined}
-use Rattle.cm_scan.specs.inlines.Inlines.{items_after, inlines_of, depth_of_leaf}
+use Rattle.cm_inline.proofs.lemmas.Words.{◌≡◌, ℕ, zero, ◌+◌, ◌-◌, ◌<◌, ◌≤◌, ◌==◌, Bool, true, false, List, [], ◌∷◌, ◌++◌, length, take, drop, get_or, map, reverse}
+use Rattle.cm_inline.proofs.lemmas.Words.{None, codes, refl, sym, ap, ◌∙◌, arith, append_assoc, take-add, nat_lt, if◌then◌else◌, list_all, slice_range, and_parts}
+use Rattle.cm_inline.proofs.lemmas.Words.{eqb-true, nat_tests, drop_all, drop_more, map-append, reverse-append, reverse-reverse, flat_map-append, Rules, inlines_depth}
+use Rattle.cm_inline.proofs.lemmas.Words.{fold_out-Inline, Soft, escape_byte, escape, Rendered, inline_step, inlines_html, rendered, Item, Characters, Finished}
+use Rattle.cm_inline.proofs.lemmas.Words.{settled_after, settled, pair_all, one_by_one, Defined, items_after, inlines_of, depth_of_leaf, is_plain_byte}
+use Rattle.cm_inline.proofs.lemmas.Words.{plain_front_is_text, rules}
+use Rattle.std.proofs.Common.{take_all}
+use Rattle.cm_tree.specs.declared.tree.Inline.TheVariants.{outs-Soft}
+use Rattle.cm_scan.specs.inlines.Pairing.{pair_leftmost}
 use Rattle.cm_scan.specs.inlines.Inlines as inlines
-use Rattle.cm_scan.specs.laws.InlineLaws.{is_plain_byte}
-use Rattle.cm_scan.proofs.lemmas.inlines.ReadingSteps.{plain_front_is_text, spaces_and_line_feed}
+use Rattle.cm_scan.proofs.lemmas.inlines.ReadingSteps.{spaces_and_line_feed}
 use Rattle.cm_scan.proofs.lemmas.inlines.PairingLemmas.{pair_all-stop}
 use Rattle.cm_inline.specs.steps.Depths.{items_depth}
 use Rattle.cm_inline.specs.steps.Marks.{stays_text}
@@ -109,10 +100,7 @@ feed-further source at within byte read = λ rules defined.
 -- the items of such a source
 all-items : (source : List ℕ) (at : ℕ) → length source ≤ at → ReadsAsText source at → (rules : Rules) (defined : Defined) → inlines.items_of rules defined source ≡ line_items source
 unfolding inlines.items_of items_after
-all-items source at past read rules defined =
-    ap reverse (read rules defined)
-    ∙ ap (λ t. reverse (items_after rules defined zero (reverse (take at source)) t (reverse (line_items (take at source))))) (drop_all at source past)
-    ∙ reverse-reverse (line_items (take at source)) ∙ ap line_items (take_all at source past)
+all-items source at past read rules defined = grind (arith, nat_tests, drop_all, reverse-reverse, take_all)
 
 -- nothing among them pairs
 none-pairs : (text : List ℕ) (before : List Item) → pair_leftmost before (line_items text) ≡ None
@@ -145,11 +133,7 @@ settled-html before (b ∷ bs) = go (b == 10) refl (λ text. settled-html text b
 
 none-deep : (text : List ℕ) → items_depth (line_items text) ≡ 0
 none-deep [] = refl
-none-deep (b ∷ bs) = go (b == 10) (none-deep bs)
-  where
-    go : (feed : Bool) → items_depth (line_items bs) ≡ 0 → items_depth ((if feed then Finished Soft else Characters (b ∷ [])) ∷ line_items bs) ≡ 0
-    go true rest = omega (arith, soft-depth, rest)
-    go false rest = omega (arith, rest)
+none-deep (b ∷ bs) = search (rules, soft-depth, (none-deep bs))
 
 inlines-are : (source : List ℕ) (at : ℕ) → length source ≤ at → ReadsAsText source at → (rules : Rules) (defined : Defined) → inlines_of rules defined source ≡ settled (line_items source)
 unfolding inlines_of

@@ -1,29 +1,24 @@
 -- How far a pass has come among segments: those that it is done with stand for items, and what is ahead waits.
-use Rattle.std.proofs.Common.{◌≡◌, inr, ℕ, ◌+◌, ◌<◌, ◌≤◌, List, [], ◌∷◌, ◌++◌, length, get_or, refl, sym, ap, subst, ◌∙◌, arith, append-nil, append_assoc}
-use Rattle.std.proofs.lemmas.List.{get_or-map, length-map}
-use Rattle.std.proofs.lemmas.List.Sums.{sum_by-cons}
-use Rattle.cm_scan.specs.inlines.Delimiters.{Run}
-use Rattle.cm_scan.specs.inlines.Pairing.{Item, Delimiters, pair_all}
-use Rattle.cm_scan.specs.inlines.OnePass.{passed, pass_from}
-use Rattle.cm_scan.proofs.lemmas.inlines.OnePassLemmas.{pairs_in_one_pass}
-use Rattle.cm_inline.specs.declared.runs.Run.{Run as HeldRun}
+use Rattle.cm_inline.proofs.lemmas.Words.{◌≡◌, inr, ℕ, ◌+◌, ◌<◌, ◌≤◌, List, [], ◌∷◌, ◌++◌, length, get_or, refl, sym, ap, subst, ◌∙◌, arith, append-nil, append_assoc}
+use Rattle.cm_inline.proofs.lemmas.Words.{get_or-map, length-map, sum_by-cons, Run, Item, Delimiters, pair_all, passed, pass_from, pairs_in_one_pass, HeldRun}
 use Rattle.cm_inline.specs.steps.pairing.ClosingRuns.{State, PartsHold, RunComes, PassGoesOn}
 use Rattle.cm_inline.specs.steps.pairing.Paired.{AreRuns}
-use Rattle.cm_inline.specs.steps.pairing.Parts.{Pair, PairedRun, Part, Numbered, no_run as no_paired_run, events_of, Rising}
+use Rattle.cm_inline.specs.steps.pairing.Parts.{Pair, PairedRun, Part, Numbered, no_run as no_paired_run, events_of}
 use Rattle.cm_inline.specs.steps.pairing.Readings.{StandFor, starts_in}
-use Rattle.cm_inline.specs.steps.pairing.Segments.{Segment, Waiting, Made, parts_in, items_in, all_parts, numbers_in, fresh, IsMade, AreSegments}
+use Rattle.cm_inline.specs.steps.pairing.Segments.{Segment, Waiting, Made, parts_in, items_in, all_parts, numbers_in, fresh, AreSegments}
 use Rattle.cm_inline.specs.steps.pairing.States.{no_run, run_at, IsFresh, Grows}
 use Rattle.cm_inline.specs.steps.Depths.{items_depth}
 use Rattle.cm_inline.specs.steps.Openers.{spent}
 use Rattle.cm_inline.specs.steps.Pairs.{items_emphases, allowed, allowance, AreOf, AreLooks}
 use Rattle.cm_inline.specs.steps.Runs.{paired_run, run_of, runs_in}
-use Rattle.cm_inline.proofs.lemmas.ClosingLemmas.{events-append, low-parts}
+use Rattle.cm_inline.proofs.lemmas.ClosingLemmas.{low-parts}
 use Rattle.cm_inline.proofs.lemmas.EmphasisLemmas.{reversed-hold}
 use Rattle.cm_inline.proofs.lemmas.KeptLemmas.{segments-grow, segments-same, segments-from}
 use Rattle.cm_inline.proofs.lemmas.PairDepthLemmas.{pass-deeper}
 use Rattle.cm_inline.proofs.lemmas.PassLemmas.{with_next, holds-raised, holds-nothing, beginning, nothing-spent, not-run, rising-join, rising-done}
 use Rattle.cm_inline.proofs.lemmas.ReadingLemmas.{starts-append}
 use Rattle.cm_inline.proofs.lemmas.SegmentLemmas.{pass-made, pass-pairs}
+use Rattle.cm_inline.proofs.lemmas.LaidLemmas.{events-append}
 
 -- Those that are done stand for items, the last first, of which the pass makes with those ahead what it makes of all. The looks are paid for.
 pub record Reached (looks : ℕ) (inside : List Segment) (s : State) (done ahead : List Segment) (before : List Item) : Type 0 where
@@ -62,22 +57,20 @@ parts-more done s = parts-join done (s ∷ []) ∙ ap (λ t. all_parts done ++ t
 pub reached-made : (looks : ℕ) (inside : List Segment) (s : State) (done ahead : List Segment) (before : List Item) (parts : List Part) (item : Item) (high : ℕ) → Reached looks inside s done (Made parts item high ∷ ahead) before
     → Reached looks inside (with_next high s) (done ++ Made parts item high ∷ []) ahead (item ∷ before)
 unfolding items_in pass_from
-reached-made looks inside s done ahead before parts item high r = record {
-  whole = r.whole ∙ sym (append_assoc done (Made parts item high ∷ []) ahead);
-  holds = subst (λ ms. PartsHold ms (length s.pairs) (with_next high s) (item ∷ before)) (sym (parts-more done (Made parts item high))) (pass-made (all_parts done) parts item high s before r.holds m rising);
-  segments = r.segments.1;
-  runs = r.runs;
-  passes = ap (λ b. pass_from b (items_in ahead)) (sym (not-run before item m.other)) ∙ r.passes;
-  are = λ kinds a. (r.are kinds a).1;
-  paid = λ kinds a. omega (arith, r.paid kinds a, sum_by-cons (allowed kinds) item (items_in ahead));
-  made = omega (arith, r.made);
-}
-  where
-    m : IsMade s.runs s.pairs s.list.next parts item high
-    m = r.segments.0
-
-    rising : Rising 0 (events_of s.runs s.pairs (all_parts done) ++ events_of s.runs s.pairs parts)
-    rising = rising-join 0 s.list.next (events_of s.runs s.pairs (all_parts done)) (events_of s.runs s.pairs parts) (omega arith) (rising-done (all_parts done) s before r.holds) (low-parts s.list.next s.runs s.pairs (all_parts done) r.holds.under r.holds.marked) m.rising
+reached-made looks inside s done ahead before parts item high r =
+    let m = r.segments.0 in
+    let rising = rising-join 0 s.list.next (events_of s.runs s.pairs (all_parts done)) (events_of s.runs s.pairs parts) (omega arith) (rising-done (all_parts done) s before r.holds)
+        (low-parts s.list.next s.runs s.pairs (all_parts done) r.holds.under r.holds.marked) m.rising in
+    record {
+      whole = r.whole ∙ sym (append_assoc done (Made parts item high ∷ []) ahead);
+      holds = subst (λ ms. PartsHold ms (length s.pairs) (with_next high s) (item ∷ before)) (sym (parts-more done (Made parts item high))) (pass-made (all_parts done) parts item high s before r.holds m rising);
+      segments = r.segments.1;
+      runs = r.runs;
+      passes = ap (λ b. pass_from b (items_in ahead)) (sym (not-run before item m.other)) ∙ r.passes;
+      are = λ kinds a. (r.are kinds a).1;
+      paid = λ kinds a. omega (arith, r.paid kinds a, sum_by-cons (allowed kinds) item (items_in ahead));
+      made = omega (arith, r.made);
+    }
 
 -- The pass comes to the next number that waits, past those that are made.
 pub record AtRun (looks : ℕ) (inside : List Segment) (s : State) (number : ℕ) (numbers : List ℕ) : Type 0 where

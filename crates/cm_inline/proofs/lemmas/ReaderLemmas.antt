@@ -1,67 +1,46 @@
 -- A source as far as it is read, with text or an atom more.
-use Rattle.std.proofs.Common.{◌≡◌, ◌⊎◌, inl, inr, ℕ, ◌+◌, ◌^◌, ◌<◌, ◌≤◌, ◌==◌, Bool, true, false, ◌||◌, List, [], ◌∷◌, ◌++◌, length, drop, get_or, reverse, Option, Some, None, refl, sym, ap, subst, ◌∙◌, arith, append-nil, length-append}
-use Rattle.std.specs.Prelude.{nat_lt, not, ◌&&◌, replicate, slice_index, if◌then◌else◌, IsUtf8, encode_utf8, encode_utf8_all}
-use Rattle.std.specs.List.{slice_range, list_all, concat}
-use Rattle.std.specs.Str.{IsCharBoundary}
-use Rattle.std.proofs.lemmas.Bool.Decides.{nat_tests}
-use Rattle.std.proofs.lemmas.List.{reverse-append, map-append, length-map, get_or_push}
-use Rattle.std.proofs.lemmas.Str.{IsCharBoundary-start}
-use Rattle.cm_text.specs.Rules.{Rules}
-use Rattle.cm_text.specs.declared.references.Chars.{Chars}
-use Rattle.cm_text.specs.References.{chars_of}
-use Rattle.cm_tree.specs.Definitions.{Targets}
-use Rattle.cm_scan.specs.inlines.Brackets.{Defined, defined_in, is_linked, holds_link}
-use Rattle.cm_scan.specs.inlines.Pairing.{Item, Characters, Finished, Opener, bracket_text}
+use Rattle.cm_inline.proofs.lemmas.Words.{◌≡◌, ℕ, ◌+◌, ◌^◌, ◌<◌, ◌≤◌, ◌==◌, Bool, true, false, ◌||◌, List, [], ◌∷◌, ◌++◌, length, drop, reverse, Option, Some, None}
+use Rattle.cm_inline.proofs.lemmas.Words.{refl, sym, ap, subst, ◌∙◌, arith, append-nil, length-append, nat_lt, if◌then◌else◌, IsUtf8, encode_utf8, encode_utf8_all}
+use Rattle.cm_inline.proofs.lemmas.Words.{slice_range, list_all, concat, IsCharBoundary, nat_tests, reverse-append, map-append, length-map, get_or_push}
+use Rattle.cm_inline.proofs.lemmas.Words.{IsCharBoundary-start, Rules, Chars, chars_of, Targets, Defined, defined_in, is_linked, holds_link, Item, Characters}
+use Rattle.cm_inline.proofs.lemmas.Words.{Finished, Opener, bracket_text, Bracket, Reader, DelimiterRun, Mark, MissingEnds, Kind, HeldRun, rules}
+use Rattle.std.specs.Prelude.{not, ◌&&◌, slice_index}
 use Rattle.cm_inline.specs.declared.atoms.Atom.{Atom}
 use Rattle.cm_inline.specs.declared.atoms.Atom.TheVariants as atoms
-use Rattle.cm_inline.specs.declared.brackets.Bracket.{Bracket}
-use Rattle.cm_inline.specs.declared.brackets.Reader.{Reader}
-use Rattle.cm_inline.specs.declared.delimiter_runs.DelimiterRun.{DelimiterRun}
-use Rattle.cm_inline.specs.declared.marks.Mark.{Mark}
-use Rattle.cm_inline.specs.declared.missing_ends.MissingEnds.{MissingEnds}
-use Rattle.cm_inline.specs.declared.marks.Kind.{Kind}
 use Rattle.cm_inline.specs.declared.marks.Kind.TheVariants as kinds
-use Rattle.cm_inline.specs.declared.runs.Run.{Run as HeldRun}
 use Rattle.cm_inline.specs.steps.pairing.Events.{Event, Text, Whole}
 use Rattle.cm_tree.specs.declared.tree.Inline.TheVariants as inline
-use Rattle.cm_inline.specs.steps.pairing.Parts.{Pair, PairedRun, Part, Numbered, Known, events_of, IsNoRun}
+use Rattle.cm_inline.specs.steps.pairing.Parts.{Pair, PairedRun, Part, Known, events_of, IsNoRun}
 use Rattle.cm_inline.specs.steps.pairing.Passes.{number_after}
 use Rattle.cm_inline.specs.steps.pairing.Readings.{starts_in, StandFor}
-use Rattle.cm_inline.specs.steps.pairing.Segments.{Segment, Waiting, Made, is_run, items_in, all_parts, numbers_in, AreSegments}
-use Rattle.cm_inline.specs.steps.pairing.States.{AreChained}
+use Rattle.cm_inline.specs.steps.pairing.Segments.{Segment, Waiting, Made, is_run, items_in, all_parts, numbers_in, fresh}
 use Rattle.cm_inline.specs.steps.Brackets.{MarkedLeaf, is_opener, has_opener, AreClosed, opened, AreOpen, View, view_of, leaf_of, events_for, IsRead, IsReadTo, Reading, marks_for, runs_for, numbers_for, brackets_for, Puts}
 use Rattle.cm_inline.specs.steps.Marks.{mark_at, part_of_kind, texts, parts_between, stays_text, is_escaped, IsUnmarked, IsOfKind, AreLaid}
 use Rattle.cm_inline.specs.steps.Missing.{Knows}
 use Rattle.cm_inline.specs.steps.Reads.{IsAtom, item_in, inline_in, IsThere, IsInline, IsTextTo, Pays, ahead, text_items}
-use Rattle.cm_inline.specs.steps.Runs.{run_of, runs_in, pairs_in, byte_of}
+use Rattle.cm_inline.specs.steps.Standalone.{IsBetween}
+use Rattle.cm_inline.specs.steps.Runs.{run_of, runs_in, pairs_in, paired_run}
 use Rattle.cm_inline.proofs.lemmas.DepthLemmas.{inline-shallow}
 use Rattle.cm_inline.proofs.lemmas.JoinLemmas.{later-more, parts-none, parts-one}
 use Rattle.cm_inline.proofs.lemmas.OpenLemmas.{open-more, open-later, open-opened, items-append, all_parts-append, numbers-append}
 use Rattle.cm_inline.proofs.lemmas.PaysLemmas.{nothing-pays, text-pays, atom-more-pays}
-use Rattle.cm_inline.proofs.lemmas.ClosingLemmas.{events-append, chain-zero}
+use Rattle.cm_inline.proofs.lemmas.ClosingLemmas.{chain-zero}
 use Rattle.cm_inline.proofs.lemmas.ReadingLemmas.{starts-append}
 use Rattle.cm_inline.proofs.lemmas.SliceLemmas.{slice-none}
-use Rattle.cm_inline.specs.declared.delimiter_runs.Marker.{Marker}
 use Rattle.cm_inline.specs.steps.Searching.{IsMarked}
-use Rattle.cm_inline.specs.steps.pairing.Parts.{no_run as no_paired_run, run_events}
-use Rattle.cm_inline.specs.steps.pairing.States.{no_run}
-use Rattle.cm_inline.specs.steps.pairing.Segments.{fresh}
-use Rattle.cm_inline.specs.steps.pairing.Events.{Rest}
-use Rattle.cm_inline.specs.steps.Runs.{paired_run}
-use Rattle.cm_inline.proofs.lemmas.StandLemmas.{events-more, segments-parts, text-stands, cut-stands, opener-stands, inline-stands, known-made, texts-known, texts-stand, stays-any, AreKnown, runs-append}
+use Rattle.cm_inline.proofs.lemmas.StandLemmas.{events-more, text-stands, cut-stands, opener-stands, inline-stands, known-made, texts-known, texts-stand, stays-any, AreKnown, runs-append}
 use Rattle.cm_inline.proofs.lemmas.CallerLemmas.{behind-append, segments-append, segments-push, chained-none, chained-push}
 use Rattle.cm_inline.proofs.lemmas.WholeLemmas.{ahead-start, ahead-text, ahead-atom}
+use Rattle.cm_inline.proofs.lemmas.LaidLemmas.{events-append}
+use Rattle.cm_inline.proofs.lemmas.KeptLemmas.{segments-parts}
 
-nothing-unmarked : (lines : Bool) (source : List ℕ) (at : ℕ) → IsCharBoundary source at → IsUnmarked lines source at at
-nothing-unmarked lines source at boundary = record { between = (omega arith, boundary, boundary); text = ap (list_all (stays_text lines)) (slice-none source at) }
+-- between a place and itself there is no text
+pub none-laid : (lines : Bool) (source : List ℕ) (at : ℕ) → IsCharBoundary source at → IsUnmarked lines source at at
+none-laid lines source at boundary = record { between = (omega arith, boundary, boundary); text = ap (list_all (stays_text lines)) (slice-none source at) }
 
 -- views that are the same in each part
 pub same-view : (v w : View) → v.lines ≡ w.lines → v.marks ≡ w.marks → v.runs ≡ w.runs → v.waiting ≡ w.waiting → v.pairs ≡ w.pairs → v.links ≡ w.links → v.links_end ≡ w.links_end → v.ends ≡ w.ends → v ≡ w
-same-view v w lines marks runs waiting pairs links links_end ends =
-    ap (λ (x : View). record v { lines = x.lines }) (ap (λ l. record v { lines = l }) lines)
-    ∙ ap (λ t. record v { lines = w.lines; marks = t }) marks ∙ ap (λ t. record v { lines = w.lines; marks = w.marks; runs = t }) runs ∙ ap (λ t. record v { lines = w.lines; marks = w.marks; runs = w.runs; waiting = t }) waiting
-    ∙ ap (λ t. record w { pairs = t; links = v.links; links_end = v.links_end; ends = v.ends }) pairs ∙ ap (λ t. record w { links = t; links_end = v.links_end; ends = v.ends }) links
-    ∙ ap (λ t. record w { links_end = t; ends = v.ends }) links_end ∙ ap (λ t. record w { ends = t }) ends
+same-view v w lines marks runs waiting pairs links links_end ends = search rules
 
 abbrev pub fresh_view : Bool → MissingEnds → View
 fresh_view lines ends = record { lines = lines; marks = []; runs = []; waiting = []; pairs = []; links = []; links_end = 0; ends = ends }
@@ -70,43 +49,21 @@ fresh-read : (source : List ℕ) (targets : Targets) (lines : Bool) (ends : Miss
 unfolding items_in all_parts numbers_in has_opener events_of number_after
 fresh-read source targets lines ends short utf8 knows =
     let start = IsCharBoundary-start source utf8 in
-    record {
-      short = short;
-      utf8 = utf8;
-      boundary = start;
-      knows = knows;
-      open_are = record { parts = sym (parts-none lines source targets [] [] 0); laid = nothing-unmarked lines source 0 start; none = refl };
-      segments_are = tt;
-      runs_are = tt;
-      waiting = refl;
-      chained = chained-none;
-      links_low = omega arith;
-      few_runs = omega arith;
-      few_links = omega arith;
-      high = omega arith;
-      starts = omega arith;
-    }
+    search (rules, parts-none, none-laid, chained-none)
 
 -- Nothing is read yet.
 pub nothing-read : (rules : Rules) (source : List ℕ) (targets : Targets) (reader : Reader) (lines : Bool) → length source < 2 ^ 32 → IsUtf8 source → view_of reader ≡ fresh_view lines reader.ends → reader.brackets.items ≡ []
     → reader.runs.openers.looks ≡ 0 → Knows source reader.ends → Reading rules source targets 0 reader
 unfolding items_in
-nothing-read rules source targets reader lines short utf8 fresh brackets looks knows = record {
-  segments = [];
-  read = subst (λ bs. IsRead source targets 0 (view_of reader) (reverse bs) []) (sym brackets) (subst (λ v. IsRead source targets 0 v [] []) (sym fresh) (fresh-read source targets lines reader.ends short utf8 knows));
-  goes = ahead-start rules (defined_in targets) source;
-  pays = nothing-pays rules (defined_in targets) source [] reader.runs.openers.looks refl looks;
-}
+nothing-read rules source targets reader lines short utf8 fresh brackets looks knows = search (
+    (subst (λ bs. IsRead source targets 0 (view_of reader) (reverse bs) []) (sym brackets) (subst (λ v. IsRead source targets 0 v [] []) (sym fresh) (fresh-read source targets lines reader.ends short utf8 knows))),
+    (ahead-start rules (defined_in targets) source), (nothing-pays rules (defined_in targets) source [] reader.runs.openers.looks refl looks))
 
 -- starts among texts
 pub texts-start : (runs : List PairedRun) (pairs : List Pair) (text : List ℕ) → starts_in (events_of runs pairs (texts text)) ≡ 0
 unfolding events_of
 texts-start runs pairs [] = refl
-texts-start runs pairs (b ∷ bs) = go (b == 10) ∙ texts-start runs pairs bs
-  where
-    go : (feed : Bool) → starts_in ((if feed then Whole inline.Soft else Text (b ∷ [])) ∷ events_of runs pairs (texts bs)) ≡ starts_in (events_of runs pairs (texts bs))
-    go true = refl
-    go false = refl
+texts-start runs pairs (b ∷ bs) = search (rules, (texts-start runs pairs bs))
 
 pub starts-more : (runs : List PairedRun) (pairs : List Pair) (xs ys : List Segment)
     → starts_in (events_of runs pairs (all_parts (xs ++ ys))) ≡ starts_in (events_of runs pairs (all_parts xs)) + starts_in (events_of runs pairs (all_parts ys))
@@ -129,52 +86,134 @@ pub record AreMore (source : List ℕ) (targets : Targets) (v : View) (at end : 
 abbrev pub more_view : View → List Mark → MissingEnds → View
 more_view v marks ends = record { lines = v.lines; marks = v.marks ++ marks; runs = v.runs; waiting = v.waiting; pairs = v.pairs; links = v.links; links_end = v.links_end; ends = ends }
 
-module _ (source : List ℕ) (targets : Targets) (v : View) (bs : List Bracket) (segments : List Segment) (at end : ℕ) (marks : List Mark) (parts : List Part) (item : Item) (ends : MissingEnds)
-    (m : AreMore source targets v at end marks parts item) (knows : Knows source ends) (r : IsRead source targets at v bs segments) where
-  abbrev leaf : MarkedLeaf
-  leaf = leaf_of source targets v
-
-  abbrev runs : List PairedRun
-  runs = runs_in v.runs
-
-  abbrev pairs : List Pair
-  pairs = pairs_in v.pairs
-
+-- a segment more, with no run in it and no start
+module _ (source : List ℕ) (targets : Targets) (v : View) (bs : List Bracket) (segments : List Segment) (at end : ℕ) (parts : List Part) (item : Item) (ends : MissingEnds) (further : at < end) (boundary : IsCharBoundary source end) (knows : Knows source ends)
+    (known : AreKnown parts) (other : is_run item ≡ false) (stands : StandFor (events_of (runs_in v.runs) (pairs_in v.pairs) parts) (item ∷ [])) (no_start : starts_in (events_of (runs_in v.runs) (pairs_in v.pairs) parts) ≡ 0) (r : IsRead source targets at v bs segments) where
   abbrev more : List Segment
   more = Made parts item (number_after 0 segments) ∷ []
 
-  more-closed : AreClosed leaf at end more marks
-  unfolding all_parts items_in has_opener
-  more-closed = record { parts = append-nil parts ∙ m.parts_are; laid = m.laid; none = ap (λ b. b || false) m.closed }
+  pub made-read : (now : List Bracket) (marks : List Mark) → AreOpen (leaf_of source targets v) now (segments ++ more) (v.marks ++ marks) end false → IsRead source targets end (more_view v marks ends) now (segments ++ more)
+  unfolding all_parts numbers_in number_after
+  made-read now marks are = grind (arith, nat_tests, segments-append, known-made, runs-append, append-nil, numbers-append, length-append, behind-append, starts-more)
 
-  more-open : AreOpen leaf bs (segments ++ more) (v.marks ++ marks) end false
-  unfolding items_in holds_link
-  more-open = open-more leaf bs segments more v.marks marks at end false (subst (λ b. AreOpen leaf bs segments v.marks at ((b || false) || false)) (sym m.unlinked) r.open_are) more-closed
+pub more-read : (source : List ℕ) (targets : Targets) (v : View) (bs : List Bracket) (segments : List Segment) (at end : ℕ) (marks : List Mark) (parts : List Part) (item : Item) (ends : MissingEnds) → AreMore source targets v at end marks parts item → Knows source ends
+    → IsRead source targets at v bs segments → IsRead source targets end (more_view v marks ends) bs (segments ++ Made parts item (number_after 0 segments) ∷ [])
+unfolding all_parts items_in has_opener holds_link
+more-read source targets v bs segments at end marks parts item ends m knows r =
+    let leaf = leaf_of source targets v in
+    let more = Made parts item (number_after 0 segments) ∷ [] in
+    let closed : AreClosed leaf at end more marks = record { parts = append-nil parts ∙ m.parts_are; laid = m.laid; none = ap (λ b. b || false) m.closed } in
+    made-read source targets v bs segments at end parts item ends m.further m.boundary knows m.known m.other m.stands m.no_start r bs marks
+    (open-more leaf bs segments more v.marks marks at end false (subst (λ b. AreOpen leaf bs segments v.marks at ((b || false) || false)) (sym m.unlinked) r.open_are) closed)
 
-  more-starts : starts_in (events_of runs pairs (all_parts (segments ++ more))) ≡ starts_in (events_of runs pairs (all_parts segments))
-  unfolding all_parts
-  more-starts =
-      let none : starts_in (events_of runs pairs (parts ++ [])) ≡ 0 = ap (λ t. starts_in (events_of runs pairs t)) (append-nil parts) ∙ m.no_start in
-      omega (arith, starts-more runs pairs segments more, none)
+-- An atom as marks that stand for its item, unless it is a run or a bracket.
 
-  pub more-read : IsRead source targets end (more_view v marks ends) bs (segments ++ more)
-  unfolding numbers_in number_after
-  more-read = record {
-    short = r.short;
-    utf8 = r.utf8;
-    boundary = m.boundary;
-    knows = knows;
-    open_are = more-open;
-    segments_are = segments-append 0 runs pairs segments more r.segments_are (known-made runs pairs (number_after 0 segments) parts item m.known m.other m.stands, tt);
-    runs_are = runs-append segments more r.runs_are tt;
-    waiting = r.waiting ∙ sym (append-nil (numbers_in segments)) ∙ sym (numbers-append segments more);
-    chained = r.chained;
-    links_low = omega (arith, r.links_low, length-append v.marks marks);
-    few_runs = omega (arith, r.few_runs, m.further);
-    few_links = omega (arith, r.few_links, m.further);
-    high = subst (λ n. n ≤ length v.runs) (sym (behind-append 0 segments more)) r.high;
-    starts = omega (arith, r.starts, more-starts);
-  }
+stays-apart : (b : ℕ) → is_escaped b ≡ false → (b == 10) ≡ false → stays_text true b ≡ true
+stays-apart b e f = ap (λ v. not v && not (true && b == 10)) e ∙ ap not f
+
+module _ (source : List ℕ) (targets : Targets) (v : View) (at end : ℕ) (start : IsCharBoundary source at) (further : at < end) (boundary : IsCharBoundary source end) where
+  abbrev runs_v : List PairedRun
+  runs_v = runs_in v.runs
+
+  abbrev pairs_v : List Pair
+  pairs_v = pairs_in v.pairs
+
+  abbrev low : at ≤ end
+  low = omega (arith, further)
+
+  abbrev More : (marks : List Mark) (parts : List Part) (item : Item) → Type 0
+  More marks parts item = AreMore source targets v at end marks parts item
+
+  -- marks and parts that are no run, no bracket and no link
+  more-by : (marks : List Mark) (parts : List Part) (item : Item) → AreLaid v.lines source targets v.runs v.links at end marks → parts ≡ parts_between source targets v.links at end marks → AreKnown parts
+      → (is_run item ≡ false) × (is_opener item ≡ false) × (is_linked item ≡ false) → StandFor (events_of runs_v pairs_v parts) (item ∷ []) → starts_in (events_of runs_v pairs_v parts) ≡ 0 → More marks parts item
+  more-by marks parts item laid same known other stands starts =
+      record { further = further; boundary = boundary; laid = laid; parts_are = same; known = known; other = other.0; closed = other.1; unlinked = other.2; stands = stands; no_start = starts }
+
+  -- text, of which each byte stays text
+  text-more : list_all (stays_text true) (slice_range source at end) ≡ true → More [] (texts (slice_range source at end)) (Characters (slice_range source at end))
+  unfolding parts_between
+  text-more stays = search (rules, more-by, stays-any, texts-known, texts-stand, texts-start)
+
+  -- one mark of a known event
+  one-more : (kind : Kind) (e : Event) (item : Item) → part_of_kind source targets v.links at end kind ≡ Known (e ∷ []) → IsOfKind source targets v.runs v.links at end kind → IsNoRun e → starts_in (e ∷ []) ≡ 0
+      → (is_run item ≡ false) × (is_opener item ≡ false) × (is_linked item ≡ false) → StandFor (e ∷ []) (item ∷ []) → More (mark_at at end kind ∷ []) (Known (e ∷ []) ∷ []) item
+  unfolding events_of
+  one-more kind e item part is none starts other stands =
+      more-by (mark_at at end kind ∷ []) (Known (e ∷ []) ∷ []) item (none-laid v.lines source at start, (low, start, boundary), is, none-laid v.lines source end boundary)
+      (ap (λ p. p ∷ []) (sym part) ∙ sym (parts-one v.lines source targets v.runs v.links (mark_at at end kind))) ((none, tt), tt) other stands starts
+
+  -- an inline of its own
+  whole-part : (kind : Kind) → IsInline source at end kind → (part_of_kind source targets v.links at end kind ≡ Known (Whole (inline_in source at end kind) ∷ [])) × IsOfKind source targets v.runs v.links at end kind
+  whole-part kind is = grind (arith, nat_tests)
+
+  pub whole-more : (kind : Kind) → IsInline source at end kind → More (mark_at at end kind ∷ []) (Known (Whole (inline_in source at end kind) ∷ []) ∷ []) (Finished (inline_in source at end kind))
+  whole-more kind is =
+      let i = inline_in source at end kind in
+      let part = whole-part kind is in
+      one-more kind (Whole i) (Finished i) part.0 part.1 tt refl (refl, refl, refl) (inline-stands i (inline-shallow source at end kind))
+
+  -- a character that HTML escapes
+  pub escaped-more : IsThere source at end atoms.Escaped → More (mark_at at end kinds.Escaped ∷ []) (Known (Text (slice_range source at end) ∷ []) ∷ []) (Characters (slice_range source at end))
+  escaped-more is = one-more kinds.Escaped (Text (slice_range source at end)) (Characters (slice_range source at end)) refl is tt refl (refl, refl, refl) (text-stands (slice_range source at end))
+
+  -- a line feed
+  pub feed-more : (lines : Bool) → v.lines ≡ lines → IsThere source at end atoms.LineFeed → More (if lines then mark_at at end kinds.Soft ∷ [] else []) (Known (Whole inline.Soft ∷ []) ∷ []) (Finished inline.Soft)
+  unfolding events_of parts_between
+  feed-more true e is = whole-more kinds.Soft tt
+  feed-more false e is =
+      more-by [] (Known (Whole inline.Soft ∷ []) ∷ []) (Finished inline.Soft)
+      (record { between = (low, start, boundary); text = ap (λ l. list_all (stays_text l) (slice_range source at end)) e ∙ ap (list_all (stays_text false)) is.1 })
+      (sym (ap texts is.1)) ((tt, tt), tt) (refl, refl, refl) (inline-stands inline.Soft (inline-shallow source at end kinds.Soft)) refl
+
+  -- the characters of a reference
+  pub reference-more : (chars : Chars) (second : Option ℕ) → chars.second ≡ second
+      → More (mark_at at end (kinds.Character chars.first) ∷ (elim second as (λ _. List Mark) [ None ↦ [] | Some c ↦ mark_at end end (kinds.Character c) ∷ [] ]))
+      (Known (Text (encode_utf8 chars.first) ∷ []) ∷ (elim second as (λ _. List Part) [ None ↦ [] | Some c ↦ Known (Text (encode_utf8 c) ∷ []) ∷ [] ])) (Characters (encode_utf8_all (chars_of chars)))
+  unfolding events_of parts_between
+  reference-more chars None e =
+      let first = encode_utf8 chars.first in
+      let same : concat (first ∷ []) ≡ encode_utf8_all (chars_of chars) = ap (λ o. encode_utf8_all (chars.first ∷ elim o as (λ _. List ℕ) [ None ↦ [] | Some second ↦ second ∷ [] ])) (sym e) in
+      one-more (kinds.Character chars.first) (Text first) (Characters (encode_utf8_all (chars_of chars))) refl tt tt refl (refl, refl, refl) (subst (λ t. StandFor (Text first ∷ []) (Characters t ∷ [])) same (cut-stands (first ∷ [])))
+  reference-more chars (Some c) e =
+      let first = encode_utf8 chars.first in
+      let second = encode_utf8 c in
+      let same : concat (first ∷ second ∷ []) ≡ encode_utf8_all (chars_of chars) = ap (λ o. encode_utf8_all (chars.first ∷ elim o as (λ _. List ℕ) [ None ↦ [] | Some second ↦ second ∷ [] ])) (sym e) in
+      let whole : end ≤ end = omega arith in
+      more-by (mark_at at end (kinds.Character chars.first) ∷ mark_at end end (kinds.Character c) ∷ []) (Known (Text first ∷ []) ∷ Known (Text second ∷ []) ∷ []) (Characters (encode_utf8_all (chars_of chars)))
+      (none-laid v.lines source at start, (low, start, boundary), tt, (none-laid v.lines source end boundary, (whole, boundary, boundary), tt, none-laid v.lines source end boundary))
+      (simp (slice-none source at, slice-none source end)) ((tt, tt), ((tt, tt), tt)) (refl, refl, refl)
+      (subst (λ t. StandFor (Text first ∷ Text second ∷ []) (Characters t ∷ [])) same (cut-stands (first ∷ second ∷ []))) refl
+
+  -- a backslash and what it escapes
+  abbrev escape_marks : Bool → List Mark
+  escape_marks escaped = mark_at at (at + 1) kinds.Nothing ∷ (if escaped then mark_at (at + 1) end kinds.Escaped ∷ [] else [])
+
+  abbrev escape_parts : Bool → List Part
+  escape_parts escaped = Known [] ∷ (if escaped then Known (Text (slice_range source (at + 1) end) ∷ []) ∷ [] else texts (slice_range source (at + 1) end))
+
+  pub escape-more : (escaped : Bool) → is_escaped (slice_index source (at + 1)) ≡ escaped → IsThere source at end atoms.Escape → More (escape_marks escaped) (escape_parts escaped) (Characters (slice_range source (at + 1) end))
+  unfolding events_of parts_between
+  escape-more escaped e is = go escaped (ap is_escaped is.4 ∙ e)
+    where
+      text : List ℕ
+      text = slice_range source (at + 1) end
+
+      first : IsBetween source at (at + 1)
+      first = (omega arith, start, is.2)
+
+      second : IsBetween source (at + 1) end
+      second = (omega (arith, is.1), is.2, boundary)
+
+      go : (escaped : Bool) → is_escaped is.0 ≡ escaped → More (escape_marks escaped) (escape_parts escaped) (Characters text)
+      go true e =
+          more-by (escape_marks true) (escape_parts true) (Characters text)
+          (none-laid v.lines source at start, first, tt, (none-laid v.lines source (at + 1) is.2, second, (is.0, e, is.3), none-laid v.lines source end boundary))
+          (simp (slice-none source at, slice-none source (at + 1), slice-none source end)) (tt, ((tt, tt), tt)) (refl, refl, refl) (text-stands text) refl
+      go false e =
+          let stays : list_all (stays_text true) text ≡ true = ap (list_all (stays_text true)) is.3 ∙ ap (λ v. v && true) (stays-apart is.0 e is.5) in
+          more-by (escape_marks false) (escape_parts false) (Characters text) (none-laid v.lines source at start, first, tt, record { between = second; text = stays-any v.lines text stays })
+          (simp (slice-none source at)) (tt, texts-known text) (refl, refl, refl) (texts-stand runs_v pairs_v text stays) (texts-start runs_v pairs_v text)
 
 -- Text more, of which each byte stays text.
 pub record IsText (source : List ℕ) (at end : ℕ) : Type 0 where
@@ -185,30 +224,12 @@ pub record IsText (source : List ℕ) (at end : ℕ) : Type 0 where
 abbrev pub text_segment : List ℕ → List Segment → (at end : ℕ) → Segment
 text_segment source segments at end = Made (texts (slice_range source at end)) (Characters (slice_range source at end)) (number_after 0 segments)
 
-text-more : (source : List ℕ) (targets : Targets) (v : View) (at end : ℕ) → IsCharBoundary source at → IsText source at end → AreMore source targets v at end [] (texts (slice_range source at end)) (Characters (slice_range source at end))
-unfolding parts_between
-text-more source targets v at end start is =
-    let low : at ≤ end = omega (arith, is.further) in
-    let text = slice_range source at end in
-    record {
-      further = is.further;
-      boundary = is.boundary;
-      laid = record { between = (low, start, is.boundary); text = stays-any v.lines text is.stays };
-      parts_are = refl;
-      known = texts-known text;
-      other = refl;
-      closed = refl;
-      unlinked = refl;
-      stands = texts-stand (runs_in v.runs) (pairs_in v.pairs) text is.stays;
-      no_start = texts-start (runs_in v.runs) (pairs_in v.pairs) text;
-    }
-
 pub text-read : (source : List ℕ) (targets : Targets) (v : View) (bs : List Bracket) (segments : List Segment) (at end : ℕ) → IsText source at end → IsRead source targets at v bs segments
     → IsRead source targets end v bs (segments ++ text_segment source segments at end ∷ [])
 text-read source targets v bs segments at end is r =
     let text = slice_range source at end in
     subst (λ ms. IsRead source targets end (record v { marks = ms }) bs (segments ++ text_segment source segments at end ∷ [])) (append-nil v.marks)
-    (more-read source targets v bs segments at end [] (texts text) (Characters text) v.ends (text-more source targets v at end r.boundary is) r.knows r)
+    (more-read source targets v bs segments at end [] (texts text) (Characters text) v.ends (text-more source targets v at end r.boundary is.further is.boundary is.stays) r.knows r)
 
 -- the items with text more
 pub text-items : (source : List ℕ) (segments : List Segment) (at end : ℕ) → items_in (segments ++ text_segment source segments at end ∷ []) ≡ items_in segments ++ Characters (slice_range source at end) ∷ []
@@ -245,185 +266,6 @@ text-goes rules source targets at end reader is g = go (nat_lt at end) refl
         let same : at ≡ end = omega (arith, none, is.low) in
         subst (λ n. Reading rules source targets n reader) same g
 
--- An atom as marks that stand for its item, unless it is a run or a bracket.
-
--- between a place and itself there is no text
-pub none-laid : (lines : Bool) (source : List ℕ) (at : ℕ) → IsCharBoundary source at → IsUnmarked lines source at at
-none-laid lines source at boundary = nothing-unmarked lines source at boundary
-
-stays-apart : (b : ℕ) → is_escaped b ≡ false → (b == 10) ≡ false → stays_text true b ≡ true
-stays-apart b e f = ap (λ v. not v && not (true && b == 10)) e ∙ ap not f
-
-module _ (source : List ℕ) (targets : Targets) (v : View) (at end : ℕ) (start : IsCharBoundary source at) (further : at < end) (boundary : IsCharBoundary source end) where
-  abbrev runs_v : List PairedRun
-  runs_v = runs_in v.runs
-
-  abbrev pairs_v : List Pair
-  pairs_v = pairs_in v.pairs
-
-  abbrev low : at ≤ end
-  low = omega (arith, further)
-
-  -- one mark of a known event
-  one-more : (kind : Kind) (e : Event) (item : Item) → part_of_kind source targets v.links at end kind ≡ Known (e ∷ []) → IsOfKind source targets v.runs v.links at end kind → IsNoRun e → starts_in (e ∷ []) ≡ 0 → StandFor (e ∷ []) (item ∷ [])
-      → is_run item ≡ false → is_opener item ≡ false → is_linked item ≡ false → AreMore source targets v at end (mark_at at end kind ∷ []) (Known (e ∷ []) ∷ []) item
-  unfolding events_of
-  one-more kind e item part is none starts stands other closed unlinked = record {
-    further = further;
-    boundary = boundary;
-    laid = (none-laid v.lines source at start, (low, start, boundary), is, none-laid v.lines source end boundary);
-    parts_are = ap (λ p. p ∷ []) (sym part) ∙ sym (parts-one v.lines source targets v.runs v.links (mark_at at end kind));
-    known = ((none, tt), tt);
-    other = other;
-    closed = closed;
-    unlinked = unlinked;
-    stands = stands;
-    no_start = starts;
-  }
-
-  -- an inline of its own
-  whole-part : (kind : Kind) → IsInline source at end kind → part_of_kind source targets v.links at end kind ≡ Known (Whole (inline_in source at end kind) ∷ [])
-  whole-part (kinds.Code from to) is = refl
-  whole-part kinds.Html is = refl
-  whole-part (kinds.Autolink is_address) is = refl
-  whole-part kinds.Soft is = refl
-  whole-part kinds.Hard is = refl
-  whole-part kinds.Plain is = absurd is
-  whole-part kinds.Escaped is = absurd is
-  whole-part kinds.Nothing is = absurd is
-  whole-part (kinds.Character c) is = absurd is
-  whole-part (kinds.Run number) is = absurd is
-  whole-part (kinds.Start number) is = absurd is
-  whole-part (kinds.End number) is = absurd is
-
-  whole-kind : (kind : Kind) → IsInline source at end kind → IsOfKind source targets v.runs v.links at end kind
-  whole-kind (kinds.Code from to) is = is
-  whole-kind kinds.Html is = tt
-  whole-kind (kinds.Autolink is_address) is = is
-  whole-kind kinds.Soft is = tt
-  whole-kind kinds.Hard is = tt
-  whole-kind kinds.Plain is = absurd is
-  whole-kind kinds.Escaped is = absurd is
-  whole-kind kinds.Nothing is = absurd is
-  whole-kind (kinds.Character c) is = absurd is
-  whole-kind (kinds.Run number) is = absurd is
-  whole-kind (kinds.Start number) is = absurd is
-  whole-kind (kinds.End number) is = absurd is
-
-  pub whole-more : (kind : Kind) → IsInline source at end kind → AreMore source targets v at end (mark_at at end kind ∷ []) (Known (Whole (inline_in source at end kind) ∷ []) ∷ []) (Finished (inline_in source at end kind))
-  whole-more kind is =
-      one-more kind (Whole (inline_in source at end kind)) (Finished (inline_in source at end kind)) (whole-part kind is) (whole-kind kind is) tt refl
-      (inline-stands (inline_in source at end kind) (inline-shallow source at end kind)) refl refl refl
-
-  -- a character that HTML escapes
-  pub escaped-more : IsThere source at end atoms.Escaped → AreMore source targets v at end (mark_at at end kinds.Escaped ∷ []) (Known (Text (slice_range source at end) ∷ []) ∷ []) (Characters (slice_range source at end))
-  escaped-more is = one-more kinds.Escaped (Text (slice_range source at end)) (Characters (slice_range source at end)) refl is tt refl (text-stands (slice_range source at end)) refl refl refl
-
-  -- a line feed
-  pub feed-more : (lines : Bool) → v.lines ≡ lines → IsThere source at end atoms.LineFeed
-      → AreMore source targets v at end (if lines then mark_at at end kinds.Soft ∷ [] else []) (Known (Whole inline.Soft ∷ []) ∷ []) (Finished inline.Soft)
-  unfolding events_of parts_between
-  feed-more true e is = whole-more kinds.Soft tt
-  feed-more false e is = record {
-    further = further;
-    boundary = boundary;
-    laid = record { between = (low, start, boundary); text = ap (λ l. list_all (stays_text l) (slice_range source at end)) e ∙ ap (list_all (stays_text false)) is.1 };
-    parts_are = sym (ap texts is.1);
-    known = ((tt, tt), tt);
-    other = refl;
-    closed = refl;
-    unlinked = refl;
-    stands = inline-stands inline.Soft (inline-shallow source at end kinds.Soft);
-    no_start = refl;
-  }
-
-  -- the characters of a reference
-  pub reference-more : (chars : Chars) (second : Option ℕ) → chars.second ≡ second
-      → AreMore source targets v at end (mark_at at end (kinds.Character chars.first) ∷ (elim second as (λ _. List Mark) [ None ↦ [] | Some c ↦ mark_at end end (kinds.Character c) ∷ [] ]))
-      (Known (Text (encode_utf8 chars.first) ∷ []) ∷ (elim second as (λ _. List Part) [ None ↦ [] | Some c ↦ Known (Text (encode_utf8 c) ∷ []) ∷ [] ])) (Characters (encode_utf8_all (chars_of chars)))
-  unfolding events_of parts_between
-  reference-more chars None e =
-      let first = encode_utf8 chars.first in
-      let same : concat (first ∷ []) ≡ encode_utf8_all (chars_of chars) = ap (λ o. encode_utf8_all (chars.first ∷ elim o as (λ _. List ℕ) [ None ↦ [] | Some second ↦ second ∷ [] ])) (sym e) in
-      record {
-        further = further;
-        boundary = boundary;
-        laid = (none-laid v.lines source at start, (low, start, boundary), tt, none-laid v.lines source end boundary);
-        parts_are = sym (parts-one v.lines source targets v.runs v.links (mark_at at end (kinds.Character chars.first)));
-        known = ((tt, tt), tt);
-        other = refl;
-        closed = refl;
-        unlinked = refl;
-        stands = subst (λ t. StandFor (Text first ∷ []) (Characters t ∷ [])) same (cut-stands (first ∷ []));
-        no_start = refl;
-      }
-  reference-more chars (Some c) e =
-      let first = encode_utf8 chars.first in
-      let second = encode_utf8 c in
-      let same : concat (first ∷ second ∷ []) ≡ encode_utf8_all (chars_of chars) = ap (λ o. encode_utf8_all (chars.first ∷ elim o as (λ _. List ℕ) [ None ↦ [] | Some second ↦ second ∷ [] ])) (sym e) in
-      let whole : end ≤ end = omega arith in
-      record {
-        further = further;
-        boundary = boundary;
-        laid = (none-laid v.lines source at start, (low, start, boundary), tt, (none-laid v.lines source end boundary, (whole, boundary, boundary), tt, none-laid v.lines source end boundary));
-        parts_are = sym (ap (λ t. texts t ++ Known (Text first ∷ []) ∷ (texts (slice_range source end end) ++ Known (Text second ∷ []) ∷ texts (slice_range source end end))) (slice-none source at)
-            ∙ ap (λ t. Known (Text first ∷ []) ∷ (texts t ++ Known (Text second ∷ []) ∷ texts t)) (slice-none source end));
-        known = ((tt, tt), ((tt, tt), tt));
-        other = refl;
-        closed = refl;
-        unlinked = refl;
-        stands = subst (λ t. StandFor (Text first ∷ Text second ∷ []) (Characters t ∷ [])) same (cut-stands (first ∷ second ∷ []));
-        no_start = refl;
-      }
-
-  -- a backslash and what it escapes
-  abbrev escape_marks : Bool → List Mark
-  escape_marks escaped = mark_at at (at + 1) kinds.Nothing ∷ (if escaped then mark_at (at + 1) end kinds.Escaped ∷ [] else [])
-
-  abbrev escape_parts : Bool → List Part
-  escape_parts escaped = Known [] ∷ (if escaped then Known (Text (slice_range source (at + 1) end) ∷ []) ∷ [] else texts (slice_range source (at + 1) end))
-
-  pub escape-more : (escaped : Bool) → is_escaped (slice_index source (at + 1)) ≡ escaped → IsThere source at end atoms.Escape → AreMore source targets v at end (escape_marks escaped) (escape_parts escaped) (Characters (slice_range source (at + 1) end))
-  unfolding events_of parts_between
-  escape-more true e is =
-      let b = is.0 in
-      let next = is.2 in
-      let text = slice_range source (at + 1) end in
-      let first : at ≤ at + 1 = omega arith in
-      let second : at + 1 ≤ end = omega (arith, is.1) in
-      record {
-        further = further;
-        boundary = boundary;
-        laid = (none-laid v.lines source at start, (first, start, next), tt, (none-laid v.lines source (at + 1) next, (second, next, boundary), (b, ap is_escaped is.4 ∙ e, is.3), none-laid v.lines source end boundary));
-        parts_are = sym (ap (λ t. texts t ++ Known [] ∷ (texts (slice_range source (at + 1) (at + 1)) ++ Known (Text text ∷ []) ∷ texts (slice_range source end end))) (slice-none source at)
-            ∙ ap (λ t. Known [] ∷ (texts t ++ Known (Text text ∷ []) ∷ texts (slice_range source end end))) (slice-none source (at + 1)) ∙ ap (λ t. Known [] ∷ Known (Text text ∷ []) ∷ texts t) (slice-none source end));
-        known = (tt, ((tt, tt), tt));
-        other = refl;
-        closed = refl;
-        unlinked = refl;
-        stands = text-stands text;
-        no_start = refl;
-      }
-  escape-more false e is =
-      let b = is.0 in
-      let next = is.2 in
-      let text = slice_range source (at + 1) end in
-      let first : at ≤ at + 1 = omega arith in
-      let second : at + 1 ≤ end = omega (arith, is.1) in
-      let stays : list_all (stays_text true) text ≡ true = ap (list_all (stays_text true)) is.3 ∙ ap (λ v. v && true) (stays-apart b (ap is_escaped is.4 ∙ e) is.5) in
-      record {
-        further = further;
-        boundary = boundary;
-        laid = (none-laid v.lines source at start, (first, start, next), tt, record { between = (second, next, boundary); text = stays-any v.lines text stays });
-        parts_are = sym (ap (λ t. texts t ++ Known [] ∷ texts text) (slice-none source at));
-        known = (tt, texts-known text);
-        other = refl;
-        closed = refl;
-        unlinked = refl;
-        stands = texts-stand runs_v pairs_v text stays;
-        no_start = texts-start runs_v pairs_v text;
-      }
-
 -- A run more, which waits.
 abbrev pub run_view : View → (at end : ℕ) → DelimiterRun → MissingEnds → View
 run_view v at end run ends = record {
@@ -438,12 +280,7 @@ run_view v at end run ends = record {
 }
 
 marker-marked : (run : DelimiterRun) → IsMarked (run_of run)
-marker-marked run = go run.marker
-  where
-    go : (m : Marker) → (byte_of m ≡ 42) ⊎ (byte_of m ≡ 95) ⊎ (byte_of m ≡ 126)
-    go Marker.Star = inl refl
-    go Marker.Underscore = inr (inl refl)
-    go Marker.Tilde = inr (inr refl)
+marker-marked run = search rules
 
 module _ (source : List ℕ) (targets : Targets) (v : View) (bs : List Bracket) (segments : List Segment) (at end : ℕ) (run : DelimiterRun) (ends : MissingEnds) (start : IsCharBoundary source at) (further : at < end)
     (boundary : IsCharBoundary source end) (there : IsThere source at end (atoms.Run run)) (some : 1 ≤ run.left) (knows : Knows source ends) (r : IsRead source targets at v bs segments) where
@@ -464,15 +301,7 @@ module _ (source : List ℕ) (targets : Targets) (v : View) (bs : List Bracket) 
 
   run-closed : AreClosed run_leaf at end one_run (mark_at at end (kinds.Run (length v.runs)) ∷ [])
   unfolding all_parts items_in has_opener
-  run-closed =
-      let low : at ≤ end = omega (arith, further) in
-      let is = get_or_push v.runs held_run no_run (length v.runs) refl in
-      let within : length v.runs < length with_run.runs = omega (arith, length-append v.runs (held_run ∷ [])) in
-      record {
-        parts = sym (parts-one v.lines source targets with_run.runs v.links (mark_at at end (kinds.Run (length v.runs))));
-        laid = (none-laid v.lines source at start, (low, start, boundary), (within, there ∙ ap (λ (x : HeldRun). replicate x.run.whole (byte_of x.run.marker)) (sym is)), none-laid v.lines source end boundary);
-        none = refl;
-      }
+  run-closed = search (rules, get_or_push, length-append, parts-one, none-laid)
 
   run-later : AreOpen run_leaf bs segments v.marks at false
   run-later =
@@ -485,38 +314,11 @@ module _ (source : List ℕ) (targets : Targets) (v : View) (bs : List Bracket) 
 
   run-starts : starts_in (events_for with_run (segments ++ one_run)) ≡ starts_in (events_for v segments)
   unfolding all_parts events_of
-  run-starts =
-      let runs = runs_in with_run.runs in
-      let pairs = pairs_in v.pairs in
-      let more = fresh (run_of run) ∷ [] in
-      let old : events_of runs pairs (all_parts segments) ≡ events_for v segments =
-      ap (λ t. events_of t pairs (all_parts segments)) runs-are ∙ events-more (runs_in v.runs) more pairs (all_parts segments) (segments-parts (runs_in v.runs) pairs 0 segments r.segments_are) in
-      let is : get_or runs (length v.runs) no_paired_run ≡ fresh (run_of run) =
-      ap (λ t. get_or t (length v.runs) no_paired_run) runs-are ∙ get_or_push (runs_in v.runs) (fresh (run_of run)) no_paired_run (length v.runs) (length-map v.runs paired_run) in
-      let none : starts_in (events_of runs pairs (Numbered (length v.runs) ∷ [])) ≡ 0 =
-      ap (λ x. starts_in (run_events pairs (length v.runs) x ++ [])) is ∙ ap (λ t. starts_in (Rest (length v.runs) (run_of run) ∷ t ++ [])) (chain-zero (reverse pairs)) in
-      omega (arith, starts-more runs pairs segments one_run, ap starts_in old, none)
+  run-starts = search (rules, runs-are, events-more, segments-parts, get_or_push, length-map, chain-zero, starts-more)
 
   pub run-read : IsRead source targets end with_run bs (segments ++ one_run)
   unfolding numbers_in number_after
-  run-read = record {
-    short = r.short;
-    utf8 = r.utf8;
-    boundary = boundary;
-    knows = knows;
-    open_are = run-open;
-    segments_are = subst (λ n. AreSegments (runs_in with_run.runs) (pairs_in v.pairs) 0 (segments ++ Waiting n (run_of run) ∷ [])) (length-map v.runs paired_run)
-        (subst (λ t. AreSegments t (pairs_in v.pairs) 0 (segments ++ Waiting (length (runs_in v.runs)) (run_of run) ∷ [])) (sym runs-are)
-        (segments-push (runs_in v.runs) (pairs_in v.pairs) (run_of run) segments (omega (arith, r.high, length-map v.runs paired_run)) r.segments_are));
-    runs_are = runs-append segments one_run r.runs_are (marker-marked run, some, tt);
-    waiting = ap (λ t. t ++ length v.runs ∷ []) r.waiting ∙ sym (numbers-append segments one_run);
-    chained = subst (λ t. AreChained t (pairs_in v.pairs)) (sym runs-are) (chained-push (runs_in v.runs) (pairs_in v.pairs) (run_of run) r.chained);
-    links_low = omega (arith, r.links_low, length-append v.marks (mark_at at end (kinds.Run (length v.runs)) ∷ []));
-    few_runs = omega (arith, r.few_runs, further, length-append v.runs (held_run ∷ []));
-    few_links = omega (arith, r.few_links, further);
-    high = omega (arith, behind-append 0 segments one_run, length-append v.runs (held_run ∷ []));
-    starts = omega (arith, r.starts, run-starts);
-  }
+  run-read = grind (arith, nat_tests, run-open, length-map, runs-are, segments-push, runs-append, marker-marked, numbers-append, chained-push, length-append, behind-append, run-starts)
 
 -- A bracket more, which is open.
 abbrev pub bracket_view : View → (at end : ℕ) → MissingEnds → View
@@ -530,32 +332,13 @@ module _ (source : List ℕ) (targets : Targets) (v : View) (bs : List Bracket) 
   abbrev one_bracket : List Segment
   one_bracket = opened source new_bracket (number_after 0 segments) ∷ []
 
-  bracket-starts : starts_in (events_for v (segments ++ one_bracket)) ≡ starts_in (events_for v segments)
-  unfolding all_parts events_of
-  bracket-starts =
-      let none : starts_in (events_of (runs_in v.runs) (pairs_in v.pairs) (all_parts one_bracket)) ≡ 0 = refl in
-      omega (arith, starts-more (runs_in v.runs) (pairs_in v.pairs) segments one_bracket, none)
-
   pub bracket-read : IsRead source targets end (bracket_view v at end ends) (new_bracket ∷ bs) (segments ++ one_bracket)
-  unfolding numbers_in number_after events_of
-  bracket-read = record {
-    short = r.short;
-    utf8 = r.utf8;
-    boundary = boundary;
-    knows = knows;
-    open_are = open-opened (leaf_of source targets v) bs new_bracket (number_after 0 segments) segments v.marks at r.open_are (record { place = there.0; front = there.1; start = start; end = boundary }) refl (ap length r.waiting) r.links_low
-        (none-laid v.lines source end boundary);
-    segments_are = segments-append 0 (runs_in v.runs) (pairs_in v.pairs) segments one_bracket r.segments_are
-        (known-made (runs_in v.runs) (pairs_in v.pairs) (number_after 0 segments) (Known (Text (bracket_text image) ∷ []) ∷ []) (Opener image (drop end source)) ((tt, tt), tt) refl (opener-stands image (drop end source)), tt);
-    runs_are = runs-append segments one_bracket r.runs_are tt;
-    waiting = r.waiting ∙ sym (append-nil (numbers_in segments)) ∙ sym (numbers-append segments one_bracket);
-    chained = r.chained;
-    links_low = omega (arith, r.links_low, length-append v.marks (mark_at at end kinds.Plain ∷ []));
-    few_runs = omega (arith, r.few_runs, further);
-    few_links = omega (arith, r.few_links, further);
-    high = subst (λ n. n ≤ length v.runs) (sym (behind-append 0 segments one_bracket)) r.high;
-    starts = omega (arith, r.starts, bracket-starts);
-  }
+  unfolding events_of
+  bracket-read =
+      made-read source targets v bs segments at end (Known (Text (bracket_text image) ∷ []) ∷ []) (Opener image (drop end source)) ends further boundary knows ((tt, tt), tt) refl (opener-stands image (drop end source)) refl r
+      (new_bracket ∷ bs) (mark_at at end kinds.Plain ∷ [])
+      (open-opened (leaf_of source targets v) bs new_bracket (number_after 0 segments) segments v.marks at r.open_are (record { place = there.0; front = there.1; start = start; end = boundary }) refl (ap length r.waiting) r.links_low
+      (none-laid v.lines source end boundary))
 
 -- What an atom puts is read.
 abbrev pub put_view : View → List ℕ → (at end : ℕ) → Atom → MissingEnds → View
@@ -585,16 +368,13 @@ module _ (source : List ℕ) (targets : Targets) (v : View) (bs : List Bracket) 
       let more = Made parts (item_in source at end atom) (number_after 0 segments) ∷ [] in
       let view : more_view v marks ends ≡ put_view v source at end atom ends =
       same-view (more_view v marks ends) (put_view v source at end atom ends) refl (ap (λ t. v.marks ++ t) (sym same)) (sym (append-nil v.runs) ∙ ap (λ t. v.runs ++ t) (sym runs)) (sym (append-nil v.waiting) ∙ ap (λ t. v.waiting ++ t) (sym numbers)) refl refl refl refl in
-      record {
-        more = more;
-        items = items-append segments more;
-        read = subst (λ b. IsRead source targets end (put_view v source at end atom ends) (reverse b ++ bs) (segments ++ more)) (sym brackets)
-            (subst (λ w. IsRead source targets end w bs (segments ++ more)) view (more-read source targets v bs segments at end marks parts (item_in source at end atom) ends m knows r));
-      }
+      search (rules, more, (items-append segments more),
+          (subst (λ b. IsRead source targets end (put_view v source at end atom ends) (reverse b ++ bs) (segments ++ more)) (sym brackets)
+              (subst (λ w. IsRead source targets end w bs (segments ++ more)) view (more-read source targets v bs segments at end marks parts (item_in source at end atom) ends m knows r))))
 
   pub put-read : (rules : Rules) (atom : Atom) → IsAtom rules source at (item_in source at end atom) end → IsThere source at end atom → PutRead source targets at end v bs segments atom ends
   unfolding items_in
-  put-read rules atoms.Text is there = simply atoms.Text [] (texts (slice_range source at end)) refl refl refl refl (text-more source targets v at end r.boundary (record { further = further; boundary = boundary; stays = there }))
+  put-read rules atoms.Text is there = simply atoms.Text [] (texts (slice_range source at end)) refl refl refl refl (text-more source targets v at end r.boundary further boundary there)
   put-read rules atoms.Escaped is there =
       simply atoms.Escaped (mark_at at end kinds.Escaped ∷ []) (Known (Text (slice_range source at end) ∷ []) ∷ []) refl refl refl refl (escaped-more source targets v at end r.boundary further boundary there)
   put-read rules atoms.Escape is there =
@@ -639,11 +419,10 @@ put-goes rules source targets at end old new within p g =
     let brackets : reverse new.brackets.items ≡ reverse more ++ bs = ap reverse p.brackets ∙ reverse-append old.brackets.items more in
     let items = read.items in
     let looks : new.runs.openers.looks ≡ old.runs.openers.looks = ap (λ o. o.looks) p.openers in
-    record {
-      segments = g.segments ++ read.more;
-      read = subst (λ b. IsRead source targets end (view_of new) b (g.segments ++ read.more)) (sym brackets) (subst (λ w. IsRead source targets end w (reverse more ++ bs) (g.segments ++ read.more)) (sym view) read.read);
-      goes = ap (λ t. ahead rules (defined_in targets) source t end) items ∙ ahead-atom rules (defined_in targets) source (items_in g.segments) at (item_in source at end p.atom) end within is ∙ g.goes;
-      pays = subst (λ n. Pays rules (defined_in targets) source (items_in (g.segments ++ read.more)) end n) (sym looks)
-          (subst (λ t. Pays rules (defined_in targets) source t end old.runs.openers.looks) (sym items)
-          (atom-more-pays rules (defined_in targets) source (items_in g.segments) at (item_in source at end p.atom) end old.runs.openers.looks within is g.pays));
-    }
+    search (
+        (subst (λ b. IsRead source targets end (view_of new) b (g.segments ++ read.more)) (sym brackets)
+            (subst (λ w. IsRead source targets end w (reverse more ++ bs) (g.segments ++ read.more)) (sym view) read.read)),
+        (ap (λ t. ahead rules (defined_in targets) source t end) items ∙ ahead-atom rules (defined_in targets) source (items_in g.segments) at (item_in source at end p.atom) end within is ∙ g.goes),
+        (subst (λ n. Pays rules (defined_in targets) source (items_in (g.segments ++ read.more)) end n) (sym looks)
+            (subst (λ t. Pays rules (defined_in targets) source t end old.runs.openers.looks) (sym items)
+            (atom-more-pays rules (defined_in targets) source (items_in g.segments) at (item_in source at end p.atom) end old.runs.openers.looks within is g.pays))))

@@ -1,27 +1,18 @@
 -- A start and an end write, and nest, as the inline does that is made of what holds between.
-use Rattle.std.proofs.Common.{◌≡◌, ℕ, zero, ◌+◌, ◌-◌, ◌≤◌, Bool, true, false, cond, ◌==◌, max, List, [], ◌∷◌, ◌++◌, map, codes, Some, None, refl, sym, ap, subst, ◌∙◌, arith, append-nil, append_assoc}
-use Rattle.std.specs.Prelude.{flat_map, replicate}
-use Rattle.std.proofs.lemmas.Bool.{cond-true, cond-false, eq-eqb, ne_eqb}
-use Rattle.std.proofs.lemmas.Grind.{flat_map-append}
-use Rattle.cm_tree.specs.declared.tree.Inline.{Inline}
-use Rattle.cm_tree.specs.declared.tree.Inline.TheFolds.{fold_out-Inline}
+use Rattle.cm_inline.proofs.lemmas.Words.{◌≡◌, ℕ, zero, ◌+◌, ◌-◌, ◌≤◌, Bool, true, false, cond, ◌==◌, max, List, [], ◌∷◌, ◌++◌, map, Some, refl, sym, ap, subst, ◌∙◌}
+use Rattle.cm_inline.proofs.lemmas.Words.{arith, append-nil, append_assoc, cond-true, cond-false, eq-eqb, ne_eqb, flat_map-append, Inline, fold_out-Inline, outs-Text}
+use Rattle.cm_inline.proofs.lemmas.Words.{outs-Link, outs-Image, outs-Emph, outs-Strong, outs-Strike, depth_step, depth_of, inlines_depth, escape_byte, escape}
+use Rattle.cm_inline.proofs.lemmas.Words.{Rendered, inline_step, inlines_html, rendered, Run, Item, emphasised, Characters, Finished, Linked, Delimiters, Opener}
+use Rattle.cm_inline.proofs.lemmas.Words.{bracket_text, text_before, settled_after, settled, rules, nat_tests, codes}
+use Rattle.std.specs.Prelude.{replicate, flat_map}
 use Rattle.cm_tree.specs.declared.tree.Inline.TheVariants as inlines
-use Rattle.cm_tree.specs.declared.tree.Inline.TheViews.{outs-Text, outs-Link, outs-Image, outs-Emph, outs-Strong, outs-Strike}
-use Rattle.cm_tree.specs.Depth.{depth_step, depth_of, inlines_depth}
-use Rattle.cm_html.specs.Escape.{escape_byte, escape}
-use Rattle.cm_html.specs.Html.{Rendered, inline_step, join_plain, inlines_html, rendered, image_start, image_html, title_html}
-use Rattle.cm_scan.specs.inlines.Delimiters.{Run}
-use Rattle.cm_scan.specs.inlines.Pairing.{Item, emphasised, Characters, Finished, Linked, Delimiters, Opener, bracket_text, text_before, settled_after, settled}
+use Rattle.cm_html.specs.Html.{join_plain, image_html, image_start, title_html}
+use Rattle.cm_inline.proofs.lemmas.InlineDepthLemmas.{both, settled-after-depth}
+use Rattle.cm_inline.specs.steps.pairing.Events.{Event, Text, Rest, Tag, Emphasis, StrongEmphasis, Strikethrough, LinkTag, Start, End, made_of, tag_of}
+use Rattle.cm_inline.proofs.lemmas.EventLemmas.{means-append, means-rest, means-empty, means-wrap, tag-makes}
+use Rattle.cm_inline.specs.steps.pairing.Readings.{start_html, end_html, Tags, Alternative, is_number, mode_of, page, write_all, item_html, item_plain, AreFree, IsAlone, Writes, deepest, Nests, starts_in, IsNear, StandFor}
+use Rattle.cm_inline.proofs.lemmas.WriteLemmas.{write-append}
 use Rattle.cm_inline.specs.steps.Depths.{items_depth}
-use Rattle.cm_inline.proofs.lemmas.InlineDepthLemmas.{text-first}
-use Rattle.cm_inline.specs.steps.pairing.Events.{Event, Text, Rest, Whole, Tag, Emphasis, StrongEmphasis, Strikethrough, LinkTag, Start, End, made_of, tag_of}
-use Rattle.cm_inline.proofs.lemmas.EventLemmas.{means-append, means-none, means-rest, means-empty, means-wrap, tag-makes}
-use Rattle.cm_inline.specs.steps.pairing.Readings.{start_html, end_html, Tags, Alternative, is_number, mode_of, Page, page, write, write_all, item_html, item_plain, AreFree, IsAlone, Writes, deepest, Nests, starts_in, IsNear, StandFor}
-
-write-append : (p : Page) (fs gs : List Event) → write_all p (fs ++ gs) ≡ write_all (write_all p fs) gs
-unfolding write_all
-write-append p [] gs = refl
-write-append p (f ∷ fs) gs = write-append (write p.html p.mode f) fs gs
 
 free-split : (n : ℕ) (fs gs : List Event) → AreFree n (fs ++ gs) → AreFree n fs × AreFree n gs
 free-split n [] gs h = (tt, h)
@@ -47,12 +38,10 @@ abbrev plain_of : List Inline → List ℕ
 plain_of content = join_plain (map rendered content)
 
 pub before-html : (text : List ℕ) (more : List Inline) → inlines_html (text_before text more) ≡ escape text ++ inlines_html more
-before-html [] more = refl
-before-html (b ∷ bs) more = ap (λ html. html ++ inlines_html more) (text-html (b ∷ bs))
+before-html text more = grind (arith, nat_tests, text-html)
 
 before-plain : (text : List ℕ) (more : List Inline) → escape (plain_of (text_before text more)) ≡ escape text ++ escape (plain_of more)
-before-plain [] more = refl
-before-plain (b ∷ bs) more = ap (λ t. escape (t ++ plain_of more)) (text-plain (b ∷ bs)) ∙ flat_map-append escape_byte (b ∷ bs) (plain_of more)
+before-plain text more = grind (arith, nat_tests, text-plain, flat_map-append)
 
 longer : (text more rest : List ℕ) → escape (text ++ more) ++ rest ≡ escape text ++ (escape more ++ rest)
 longer text more rest = ap (λ t. t ++ rest) (flat_map-append escape_byte text more) ∙ append_assoc (escape text) (escape more) rest
@@ -85,18 +74,6 @@ pub writes-inlines : (fs : List Event) (items : List Item) → Writes fs items �
 writes-inlines fs items w = w.tags [] ∙ ap (λ t. page t Tags) (sym (settled-html items))
 
 -- a start and an end
-emph-html : (content : List Inline) → (rendered (inlines.Emph content)).html ≡ start_html Emphasis ++ inlines_html content ++ end_html Emphasis
-emph-html content = simp (fold_out-Inline Rendered inline_step, outs-Emph)
-
-strong-html : (content : List Inline) → (rendered (inlines.Strong content)).html ≡ start_html StrongEmphasis ++ inlines_html content ++ end_html StrongEmphasis
-strong-html content = simp (fold_out-Inline Rendered inline_step, outs-Strong)
-
-strike-html : (content : List Inline) → (rendered (inlines.Strike content)).html ≡ start_html Strikethrough ++ inlines_html content ++ end_html Strikethrough
-strike-html content = simp (fold_out-Inline Rendered inline_step, outs-Strike)
-
-link-html : (number : ℕ) (dest title : List ℕ) (content : List Inline) → (rendered (inlines.Link dest title content)).html ≡ start_html (LinkTag number false dest title) ++ inlines_html content ++ end_html (LinkTag number false dest title)
-link-html number dest title content = simp (fold_out-Inline Rendered inline_step, outs-Link)
-
 image-is : (dest title : List ℕ) (content : List Inline) → (rendered (inlines.Image dest title content)).html ≡ image_html dest title (plain_of content)
 image-is dest title content = simp (fold_out-Inline Rendered inline_step, outs-Image)
 
@@ -132,10 +109,10 @@ writes-wrap fs inside tag w alone = record { tags = tags tag alone; alternative 
         ∙ ap (λ t. page t Tags) (plain (start_html s) (end_html s) html s h)
 
     tags : (s : Tag) → IsAlone s fs → (html : List ℕ) → write_all (page html Tags) (Start s ∷ fs ++ End s ∷ []) ≡ page (html ++ ((rendered (made_of s content)).html ++ [])) Tags
-    tags Emphasis a html = whole Emphasis html refl (emph-html content)
-    tags StrongEmphasis a html = whole StrongEmphasis html refl (strong-html content)
-    tags Strikethrough a html = whole Strikethrough html refl (strike-html content)
-    tags (LinkTag n false dest title) a html = whole (LinkTag n false dest title) html refl (link-html n dest title content)
+    tags Emphasis a html = whole Emphasis html refl (simp (fold_out-Inline Rendered inline_step, outs-Emph))
+    tags StrongEmphasis a html = whole StrongEmphasis html refl (simp (fold_out-Inline Rendered inline_step, outs-Strong))
+    tags Strikethrough a html = whole Strikethrough html refl (simp (fold_out-Inline Rendered inline_step, outs-Strike))
+    tags (LinkTag n false dest title) a html = whole (LinkTag n false dest title) html refl (simp (fold_out-Inline Rendered inline_step, outs-Link))
     tags (LinkTag n true dest title) a html =
         let s = LinkTag n true dest title in
         write-append (page (html ++ start_html s) (Alternative n)) fs (End s ∷ []) ∙ ap (λ p. write_all p (End s ∷ [])) (w.alternative (html ++ start_html s) n a)
@@ -151,23 +128,10 @@ writes-wrap fs inside tag w alone = record { tags = tags tag alone; alternative 
 
 -- and how deep
 
-greatest-append : (xs ys : List Item) → items_depth (xs ++ ys) ≡ max (items_depth xs) (items_depth ys)
-greatest-append [] ys = omega arith
-greatest-append (x ∷ xs) ys = omega (arith, greatest-append xs ys)
-
 pub nests-append : (fs gs : List Event) (xs ys : List Item) → Nests fs xs → Nests gs ys → Nests (fs ++ gs) (xs ++ ys)
 nests-append fs gs xs ys f g depth most more h =
     ap (deepest depth most) (append_assoc fs gs more) ∙ f depth most (gs ++ more) h ∙ g depth (max most (depth + items_depth xs)) more (omega (arith, h))
-    ∙ ap (λ n. deepest depth n more) (omega (arith, greatest-append xs ys))
-
-settled-after-depth : (text : List ℕ) (items : List Item) → inlines_depth (settled_after text items) ≡ items_depth items
-unfolding settled_after
-settled-after-depth text [] = text-first text []
-settled-after-depth text (Characters t ∷ items) = omega (arith, settled-after-depth (text ++ t) items)
-settled-after-depth text (Delimiters r ∷ items) = omega (arith, settled-after-depth (text ++ replicate r.left r.character) items)
-settled-after-depth text (Opener b s ∷ items) = omega (arith, settled-after-depth (text ++ bracket_text b) items)
-settled-after-depth text (Finished i ∷ items) = omega (arith, text-first text (i ∷ settled_after [] items), settled-after-depth [] items)
-settled-after-depth text (Linked i ∷ items) = omega (arith, text-first text (i ∷ settled_after [] items), settled-after-depth [] items)
+    ∙ ap (λ n. deepest depth n more) (omega (arith, both xs ys))
 
 made-depth : (tag : Tag) (content : List Inline) → depth_of (made_of tag content) ≡ inlines_depth content + 1
 made-depth Emphasis content = simp (fold_out-Inline ℕ depth_step, outs-Emph)
@@ -178,12 +142,7 @@ made-depth (LinkTag number true dest title) content = simp (fold_out-Inline ℕ 
 
 pub nests-wrap : (fs : List Event) (inside : List Item) (tag : Tag) → Nests fs inside → Nests (Start tag ∷ fs ++ End tag ∷ []) (Finished (made_of tag (settled inside)) ∷ [])
 unfolding deepest
-nests-wrap fs inside tag w depth most more h =
-    let inner = max (max most (depth + 1)) (depth + 1 + items_depth inside) in
-    ap (λ t. deepest (depth + 1) (max most (depth + 1)) t) (append_assoc fs (End tag ∷ []) more) ∙ w (depth + 1) (max most (depth + 1)) (End tag ∷ more) (omega arith)
-    ∙ cond-false (depth + 1 == 0) None (deepest (depth + 1 - 1) inner more) (ne_eqb (depth + 1) 0 (λ e. absurd (omega (arith, e))))
-    ∙ ap (λ n. deepest n inner more) (omega arith)
-    ∙ ap (λ n. deepest depth n more) (omega (arith, made-depth tag (settled inside), settled-after-depth [] inside))
+nests-wrap fs inside tag w depth most more h = search (rules, append_assoc, cond-false, ne_eqb, made-depth, settled-after-depth)
 
 -- so nothing ends that isn't open, and the greatest depth is that of the inlines
 pub nests-all : (fs : List Event) (items : List Item) → Nests fs items → deepest 0 0 fs ≡ Some (inlines_depth (settled items))
@@ -192,14 +151,11 @@ nests-all fs items n = ap (deepest 0 0) (sym (append-nil fs)) ∙ n 0 0 [] (omeg
 
 pub starts-append : (fs gs : List Event) → starts_in (fs ++ gs) ≡ starts_in fs + starts_in gs
 starts-append [] gs = omega arith
-starts-append (Text t ∷ fs) gs = starts-append fs gs
-starts-append (Rest n r ∷ fs) gs = starts-append fs gs
-starts-append (Whole i ∷ fs) gs = starts-append fs gs
 starts-append (Start s ∷ fs) gs = omega (arith, starts-append fs gs)
-starts-append (End s ∷ fs) gs = starts-append fs gs
+starts-append (_ ∷ fs) gs = starts-append fs gs
 
 pub near-append : (fs gs : List Event) (xs ys : List Item) → IsNear fs xs → IsNear gs ys → IsNear (fs ++ gs) (xs ++ ys)
-near-append fs gs xs ys f g = record { bound = omega (arith, f.bound, g.bound, starts-append fs gs, greatest-append xs ys) }
+near-append fs gs xs ys f g = record { bound = omega (arith, f.bound, g.bound, starts-append fs gs, both xs ys) }
 
 pub near-wrap : (fs : List Event) (inside : List Item) (tag : Tag) → IsNear fs inside → IsNear (Start tag ∷ fs ++ End tag ∷ []) (Finished (made_of tag (settled inside)) ∷ [])
 near-wrap fs inside tag n = record { bound = omega (arith, n.bound, starts-append fs (End tag ∷ []), made-depth tag (settled inside), settled-after-depth [] inside) }
@@ -207,56 +163,25 @@ near-wrap fs inside tag n = record { bound = omega (arith, n.bound, starts-appen
 -- all readings together
 
 pub reads-append : (fs gs : List Event) (xs ys : List Item) → StandFor fs xs → StandFor gs ys → StandFor (fs ++ gs) (xs ++ ys)
-reads-append fs gs xs ys f g = record {
-  means = means-append fs gs xs ys f.means g.means;
-  writes = writes-append fs gs xs ys f.writes g.writes;
-  nests = nests-append fs gs xs ys f.nests g.nests;
-  near = near-append fs gs xs ys f.near g.near;
-}
+reads-append fs gs xs ys f g = search (rules, means-append, writes-append, nests-append, near-append)
 
 no-more : (depth most : ℕ) → depth ≤ most → most ≡ max most (depth + 0)
 no-more depth most h = omega (arith, h)
 
 pub reads-none : StandFor [] []
 unfolding write_all
-reads-none = record {
-  means = means-none;
-  writes = record { tags = λ html. ap (λ t. page t Tags) (sym (append-nil html)); alternative = λ html n free. ap (λ t. page t (Alternative n)) (sym (append-nil html)) };
-  nests = λ depth most more h. ap (λ n. deepest depth n more) (no-more depth most h);
-  near = record { bound = omega arith };
-}
+reads-none = search rules
 
 pub reads-rest : (number : ℕ) (r : Run) → StandFor (Rest number r ∷ []) (Delimiters r ∷ [])
 unfolding write_all deepest
-reads-rest number r = record {
-  means = means-rest number r;
-  writes = record {
-    tags = λ html. ap (λ t. page (html ++ t) Tags) (sym (append-nil (escape (replicate r.left r.character))));
-    alternative = λ html n free. ap (λ t. page (html ++ t) (Alternative n)) (sym (append-nil (escape (replicate r.left r.character))));
-  };
-  nests = λ depth most more h. ap (λ n. deepest depth n more) (no-more depth most h);
-  near = record { bound = omega arith };
-}
+reads-rest number r = search (rules, means-rest, append-nil, no-more)
 
 pub reads-empty : (number : ℕ) (r : Run) → r.left ≡ zero → StandFor (Rest number r ∷ []) []
 unfolding write_all deepest
-reads-empty number r e = record {
-  means = means-empty number r e;
-  writes = record {
-    tags = λ html. ap (λ n. page (html ++ escape (replicate n r.character)) Tags) e;
-    alternative = λ html n free. ap (λ k. page (html ++ escape (replicate k r.character)) (Alternative n)) e;
-  };
-  nests = λ depth most more h. ap (λ n. deepest depth n more) (no-more depth most h);
-  near = record { bound = omega arith };
-}
+reads-empty number r e = search (rules, means-empty, no-more)
 
 pub reads-wrap : (fs : List Event) (inside : List Item) (tag : Tag) → StandFor fs inside → IsAlone tag fs → StandFor (Start tag ∷ fs ++ End tag ∷ []) (Finished (made_of tag (settled inside)) ∷ [])
-reads-wrap fs inside tag r alone = record {
-  means = means-wrap fs inside tag r.means;
-  writes = writes-wrap fs inside tag r.writes alone;
-  nests = nests-wrap fs inside tag r.nests;
-  near = near-wrap fs inside tag r.near;
-}
+reads-wrap fs inside tag r alone = search (rules, means-wrap, writes-wrap, nests-wrap, near-wrap)
 
 pub reads-pair : (fs : List Event) (inside : List Item) (character count : ℕ) → StandFor fs inside
     → StandFor (Start (tag_of character count) ∷ fs ++ End (tag_of character count) ∷ []) (Finished (emphasised character count (settled inside)) ∷ [])

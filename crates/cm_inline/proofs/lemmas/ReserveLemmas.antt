@@ -1,7 +1,7 @@
 -- The bound on looks: what a search, a removal and a push do to the looks that may still be made.
-use Rattle.std.proofs.Common.{◌≡◌, ℕ, zero, ◌+◌, ◌*◌, ◌<◌, ◌≤◌, Bool, true, false, cond, nat_le, List, [], ◌∷◌, ◌++◌, length, sum_by, refl, ap, arith, length-append}
-use Rattle.std.proofs.lemmas.List.Sums.{sum_by-append, sum_by-cons}
-use Rattle.std.proofs.lemmas.Bool.{leb-true}
+use Rattle.cm_inline.proofs.lemmas.Words.{◌≡◌, ℕ, zero, ◌+◌, ◌*◌, ◌≤◌, Bool, cond, nat_le, List, [], ◌∷◌, ◌++◌, length, refl, arith, length-append, sum_by-append}
+use Rattle.cm_inline.proofs.lemmas.Words.{sum_by-cons, leb-true, nat_tests, rules}
+use Rattle.std.proofs.Common.{sum_by}
 use Rattle.cm_inline.specs.steps.Entries.{Entry, above, reserve, Below}
 
 pub above-append : (b : ℕ) (xs ys : List Entry) → above b (xs ++ ys) ≡ above b xs + above b ys
@@ -11,8 +11,7 @@ pub above-cons : (b : ℕ) (e : Entry) (es : List Entry) → above b (e ∷ es) 
 above-cons b e es = sum_by-cons (λ (e : Entry). cond (nat_le b e.place) 1 0) e es
 
 cond_le : (b : Bool) → cond b 1 0 ≤ 1
-cond_le true = omega arith
-cond_le false = omega arith
+cond_le b = grind (arith, nat_tests)
 
 -- a sum grows by at most a number for each term
 sum-le : (f g : ℕ → ℕ) (k : ℕ) (bs : List ℕ) → ((b : ℕ) → f b ≤ g b + k) → sum_by f bs ≤ sum_by g bs + k * length bs
@@ -37,13 +36,6 @@ reserve-remove bs xs ys zs =
     less : (b : ℕ) → above b (xs ++ zs) ≤ above b (xs ++ ys ++ zs) + 0
     less b = omega (arith, above-append b xs zs, above-append b (xs ++ ys) zs, above-append b xs ys)
 
-abbrev one_if : Bool → ℕ
-one_if b = cond b 1 0
-
 pub above-all : (n : ℕ) (es : List Entry) → Below n es → above n es ≡ zero
 above-all n [] h = refl
-above-all n (e ∷ es) h = omega (arith, above-cons n e es, above-all n es h.1, no_more (nat_le n e.place) refl)
-  where
-    no_more : (b : Bool) → nat_le n e.place ≡ b → one_if (nat_le n e.place) ≡ zero
-    no_more true k = let p : n ≤ e.place = leb-true n e.place k in let q : e.place < n = h.0 in absurd (omega arith)
-    no_more false k = ap one_if k
+above-all n (e ∷ es) h = search (rules, above-cons, leb-true, (above-all n es h.1))

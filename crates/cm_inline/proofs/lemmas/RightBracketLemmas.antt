@@ -1,17 +1,7 @@
 -- A source that is read up to a `]`, and what that makes.
-use Rattle.std.proofs.Common.{◌≡◌, ℕ, ◌+◌, ◌-◌, ◌<◌, ◌≤◌, Bool, true, false, ◌||◌, List, [], ◌∷◌, ◌++◌, length, take, drop, reverse, None, refl, sym, ap, subst, ◌∙◌, arith, append_assoc}
-use Rattle.std.specs.Prelude.{nat_lt, IsUtf8}
-use Rattle.std.specs.List.{slice_range, list_all}
-use Rattle.std.proofs.lemmas.List.{reverse-append}
-use Rattle.std.proofs.lemmas.Str.{IsCharBoundary-after_ascii}
-use Rattle.std.proofs.Math.Seq.{take-append_seam}
-use Rattle.cm_text.specs.Rules.{Rules}
-use Rattle.cm_tree.specs.Definitions.{Targets}
-use Rattle.cm_scan.specs.inlines.Brackets.{defined_in, holds_link}
-use Rattle.cm_scan.specs.inlines.Pairing.{Item, Characters, Opener, bracket_text}
-use Rattle.cm_inline.specs.declared.brackets.Bracket.{Bracket}
-use Rattle.cm_inline.specs.declared.brackets.Reader.{Reader}
-use Rattle.cm_inline.specs.declared.marks.Mark.{Mark}
+use Rattle.cm_inline.proofs.lemmas.Words.{◌≡◌, ℕ, ◌+◌, ◌-◌, ◌<◌, ◌≤◌, true, false, ◌||◌, List, [], ◌∷◌, ◌++◌, drop, reverse, None, refl, sym, ap, subst, ◌∙◌, arith}
+use Rattle.cm_inline.proofs.lemmas.Words.{append_assoc, nat_lt, IsUtf8, slice_range, list_all, reverse-append, IsCharBoundary-after_ascii, Rules, Targets, defined_in}
+use Rattle.cm_inline.proofs.lemmas.Words.{holds_link, Item, Characters, Opener, bracket_text, Bracket, Reader, Mark, rules}
 use Rattle.cm_inline.specs.declared.marks.Kind.TheVariants as kinds
 use Rattle.cm_inline.specs.steps.pairing.Events.{Text}
 use Rattle.cm_inline.specs.steps.pairing.Paired.{AreRuns}
@@ -20,7 +10,7 @@ use Rattle.cm_inline.specs.steps.pairing.Passes.{number_after}
 use Rattle.cm_inline.specs.steps.pairing.Readings.{starts_in}
 use Rattle.cm_inline.specs.steps.pairing.Segments.{Segment, Made, items_in, all_parts, numbers_in, AreSegments}
 use Rattle.cm_inline.specs.steps.Brackets.{MarkedLeaf, View, view_of, leaf_of, events_for, has_opener, AreClosed, IsOpener, opened, Level, AreOpen, IsRead, IsReadTo, Reading, closed_at, end_for}
-use Rattle.cm_inline.specs.steps.Marks.{mark_at, part_of, texts, parts_between, stays_text}
+use Rattle.cm_inline.specs.steps.Marks.{mark_at, parts_between, stays_text}
 use Rattle.cm_inline.specs.steps.Pairs.{Keeps}
 use Rattle.cm_inline.specs.steps.Reads.{Stands}
 use Rattle.cm_inline.specs.steps.Runs.{runs_in, pairs_in}
@@ -29,32 +19,27 @@ use Rattle.cm_inline.proofs.lemmas.CallerLemmas.{behind-append, segments-append}
 use Rattle.cm_inline.proofs.lemmas.KeepsLemmas.{keeps-closer, keeps-text}
 use Rattle.cm_inline.proofs.lemmas.OpenLemmas.{open-more, items-append, all_parts-append, numbers-append}
 use Rattle.cm_inline.proofs.lemmas.PaysLemmas.{closed-pays}
-use Rattle.cm_inline.proofs.lemmas.ReaderLemmas.{IsText, text_segment, text-read, text-items, none-laid}
-use Rattle.cm_inline.proofs.lemmas.SliceLemmas.{slice-none, one-slice}
-use Rattle.cm_inline.proofs.lemmas.StandLemmas.{segments-split, runs-split, runs-append, text-stands}
+use Rattle.cm_inline.proofs.lemmas.ReaderLemmas.{IsText, text_segment, text-read, text-items}
+use Rattle.cm_inline.proofs.lemmas.SliceLemmas.{one-slice}
+use Rattle.cm_inline.proofs.lemmas.StandLemmas.{runs-split, runs-append, text-stands}
 use Rattle.cm_inline.proofs.lemmas.WholeLemmas.{ahead-bracket}
+use Rattle.cm_inline.proofs.lemmas.KeptLemmas.{segments-split}
 
 -- a `]` as text
 bracket-slice : (source : List ℕ) (at : ℕ) → Stands source at 93 → slice_range source at (at + 1) ≡ 93 ∷ []
 bracket-slice source at stands = one-slice source at stands.within ∙ ap (λ b. b ∷ []) stands.byte
 
 bracket-text : (source : List ℕ) (at : ℕ) → IsUtf8 source → Stands source at 93 → IsText source at (at + 1)
-bracket-text source at utf8 stands = record {
-  further = omega arith;
-  boundary = IsCharBoundary-after_ascii source at utf8 stands.within (omega (arith, stands.byte));
-  stays = ap (list_all (stays_text true)) (bracket-slice source at stands);
-}
+bracket-text source at utf8 stands = search (rules, (IsCharBoundary-after_ascii source at utf8 stands.within (omega (arith, stands.byte))),
+    (ap (list_all (stays_text true)) (bracket-slice source at stands)))
 
 -- With other items, of which it is known what a `]` makes of them.
 pub goes-on : (rules : Rules) (source : List ℕ) (targets : Targets) (at end : ℕ) (old new : Reader) → Stands source at 93 → at < end → (g : Reading rules source targets at old) → (segments : List Segment) → IsReadTo source targets end new segments
     → closed_at rules (defined_in targets) source (items_in g.segments) at ≡ record { items = reverse (items_in segments); rest = drop end source } → Keeps old.runs.openers.looks (items_in g.segments) new.runs.openers.looks (items_in segments)
     → Reading rules source targets end new
-goes-on rules source targets at end old new stands further g segments read closed keeps = record {
-  segments = segments;
-  read = read;
-  goes = ahead-bracket rules (defined_in targets) source (items_in g.segments) (items_in segments) at end stands further closed ∙ g.goes;
-  pays = closed-pays rules (defined_in targets) source (items_in g.segments) (items_in segments) at end old.runs.openers.looks new.runs.openers.looks stands g.pays further keeps closed;
-}
+goes-on rules source targets at end old new stands further g segments read closed keeps = search (segments, read,
+    (ahead-bracket rules (defined_in targets) source (items_in g.segments) (items_in segments) at end stands further closed ∙ g.goes),
+    (closed-pays rules (defined_in targets) source (items_in g.segments) (items_in segments) at end old.runs.openers.looks new.runs.openers.looks stands g.pays further keeps closed))
 
 -- No bracket is open.
 no-opener : (leaf : MarkedLeaf) (segments : List Segment) (marks : List Mark) (at : ℕ) → AreOpen leaf [] segments marks at false → has_opener (items_in segments) ≡ false
@@ -76,15 +61,6 @@ nothing-closes rules source targets at old new stands none still view looks g =
     (subst (λ t. Keeps old.runs.openers.looks items new.runs.openers.looks t) (sym is) (subst (λ n. Keeps old.runs.openers.looks items n (items ++ Characters text ∷ [])) (sym looks) (keeps-closer old.runs.openers.looks items text)))
 
 -- The last open bracket becomes text.
-opener-text : (source : List ℕ) (image : Bool) (at behind : ℕ) → IsOpener source image at behind → slice_range source at behind ≡ bracket_text image
-opener-text source image at behind o =
-    let size : behind - at ≡ length (bracket_text image) = omega (arith, o.place) in
-    ap (λ n. take n (drop at source)) size ∙ ap (take (length (bracket_text image))) o.front ∙ take-append_seam (bracket_text image) (drop behind source)
-
-opener-stays : (image : Bool) → list_all (stays_text false) (bracket_text image) ≡ true
-opener-stays true = refl
-opener-stays false = refl
-
 abbrev pub left_segment : Bracket → ℕ → Segment
 left_segment b high = Made (Known (Text (bracket_text b.image) ∷ []) ∷ []) (Characters (bracket_text b.image)) high
 
@@ -92,16 +68,7 @@ left_segment b high = Made (Known (Text (bracket_text b.image) ∷ []) ∷ []) (
 pub bracket-closed : (leaf : MarkedLeaf) (b : Bracket) (at to high : ℕ) (inside : List Segment) (late : List Mark) → IsOpener leaf.source b.image at b.end → AreClosed leaf b.end to inside late
     → AreClosed leaf at to (left_segment b high ∷ inside) (mark_at at b.end kinds.Plain ∷ late)
 unfolding all_parts items_in has_opener parts_between
-bracket-closed leaf b at to high inside late bracket closed =
-    let source = leaf.source in
-    let between = parts_between source leaf.targets leaf.links in
-    let text = opener-text source b.image at b.end bracket in
-    record {
-      parts = ap (λ t. Known (Text (bracket_text b.image) ∷ []) ∷ t) closed.parts ∙ ap (λ t. Known (Text t ∷ []) ∷ between b.end to late) (sym text)
-          ∙ ap (λ t. texts t ++ part_of source leaf.targets leaf.links (mark_at at b.end kinds.Plain) ∷ between b.end to late) (sym (slice-none source at));
-      laid = (none-laid leaf.lines source at bracket.start, (omega (arith, bracket.place), bracket.start, bracket.end), ap (list_all (stays_text false)) text ∙ opener-stays b.image, closed.laid);
-      none = closed.none;
-    }
+bracket-closed leaf b at to high inside late bracket closed = search rules
 
 module _ (source : List ℕ) (targets : Targets) (at : ℕ) (v : View) (b : Bracket) (bs : List Bracket) (segments : List Segment) (r : IsRead source targets at v (b ∷ bs) segments) where
   abbrev leaf : MarkedLeaf
@@ -152,7 +119,7 @@ module _ (source : List ℕ) (targets : Targets) (at : ℕ) (v : View) (b : Brac
 
   -- the segments before it, itself and those behind it
   pub both : AreSegments runs pairs 0 front × AreSegments runs pairs (number_after 0 front) (opened source b level.high ∷ inside)
-  both = segments-split runs pairs 0 front (opened source b level.high ∷ inside) (subst (AreSegments runs pairs 0) level.whole r.segments_are)
+  both = segments-split 0 runs pairs front (opened source b level.high ∷ inside) (subst (AreSegments runs pairs 0) level.whole r.segments_are)
 
   left-segments : AreSegments runs pairs 0 (front ++ left)
   unfolding events_of
@@ -177,22 +144,7 @@ module _ (source : List ℕ) (targets : Targets) (at : ℕ) (v : View) (b : Brac
   left-runs = runs-split front (opened source b level.high ∷ inside) (subst AreRuns level.whole r.runs_are)
 
   pub left-read : IsRead source targets at v bs (front ++ left)
-  left-read = record {
-    short = r.short;
-    utf8 = r.utf8;
-    boundary = r.boundary;
-    knows = r.knows;
-    open_are = left-open;
-    segments_are = left-segments;
-    runs_are = runs-append front left left-runs.0 left-runs.1;
-    waiting = r.waiting ∙ sym left-numbers;
-    chained = r.chained;
-    links_low = r.links_low;
-    few_runs = r.few_runs;
-    few_links = r.few_links;
-    high = omega (arith, r.high, left-high);
-    starts = omega (arith, r.starts, left-starts);
-  }
+  left-read = search (rules, left-open, left-segments, (runs-append front left left-runs.0 left-runs.1), (r.waiting ∙ sym left-numbers), left-high, left-starts)
 
 -- A bracket that no link follows is left as text, as the `]` is.
 pub text-closes : (rules : Rules) (source : List ℕ) (targets : Targets) (at : ℕ) (old new : Reader) (others : List Bracket) (b : Bracket) → Stands source at 93 → old.brackets.items ≡ others ++ b ∷ [] → new.brackets.items ≡ others
@@ -215,14 +167,10 @@ text-closes rules source targets at old new others b stands had has view looks l
     let is : items_in more ≡ left_as_text outer inner b.image =
     text-items source so_far at (at + 1) ∙ ap (λ t. t ++ Characters text ∷ []) (left-items source targets at v b bs g.segments r) ∙ ap (λ t. (outer ++ Characters (bracket_text b.image) ∷ inner) ++ Characters t ∷ []) (bracket-slice source at stands)
     ∙ append_assoc outer (Characters (bracket_text b.image) ∷ inner) (Characters (93 ∷ []) ∷ []) in
-    let link : holds_link inner ≡ nat_lt b.mark links_end = sym (or-none (holds_link inner)) ∙ sym level.link ∙ ap (nat_lt b.mark) (sym same) in
+    let link : holds_link inner ≡ nat_lt b.mark links_end = sym (elim (holds_link inner) as (λ u. u || false ≡ u) [ true ↦ refl | false ↦ refl ]) ∙ sym level.link ∙ ap (nat_lt b.mark) (sym same) in
     goes-on rules source targets at (at + 1) old new stands (omega arith) g more read
     (ap (λ t. closed_at rules (defined_in targets) source t at) before ∙ closes-opener rules (defined_in targets) source outer inner b at links_end level.closed.none link order stands.within
     ∙ ap (closed_or outer inner b.image (drop (at + 1) source)) none ∙ ap (λ t. record { items = reverse t; rest = drop (at + 1) source }) (sym is))
     (subst (λ t. Keeps old.runs.openers.looks t new.runs.openers.looks (items_in more)) (sym before) (subst (λ t. Keeps old.runs.openers.looks (outer ++ Opener b.image (drop b.end source) ∷ inner) new.runs.openers.looks t) (sym is)
     (subst (λ n. Keeps old.runs.openers.looks (outer ++ Opener b.image (drop b.end source) ∷ inner) n (left_as_text outer inner b.image)) (sym looks)
     (keeps-text old.runs.openers.looks outer inner b.image (drop b.end source) (bracket_text b.image) (93 ∷ [])))))
-  where
-    or-none : (u : Bool) → u || false ≡ u
-    or-none true = refl
-    or-none false = refl

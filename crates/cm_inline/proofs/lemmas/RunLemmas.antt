@@ -1,18 +1,16 @@
 -- What a delimiter run writes.
-use Rattle.std.proofs.Common.{◌≡◌, ℕ, ◌<◌, ◌≤◌, List, ◌∷◌, ◌++◌, length, get_or, sym, ap, subst, ◌∙◌, arith}
-use Rattle.std.specs.Prelude.{replicate}
+use Rattle.cm_inline.proofs.lemmas.Words.{◌≡◌, ℕ, ◌<◌, ◌≤◌, List, ◌++◌, length, get_or, sym, ap, subst, ◌∙◌, arith, get_or-map, rules}
 use Rattle.cm_inline.specs.declared.runs.Run as held
 use Rattle.cm_inline.specs.declared.runs.Pair as made
-use Rattle.cm_inline.specs.steps.pairing.Events.{Rest}
 use Rattle.cm_inline.specs.steps.pairing.Parts.{PairedRun, no_run, starts, ends_between, run_events}
 use Rattle.cm_inline.specs.steps.pairing.States.{AreChained}
-use Rattle.cm_inline.specs.steps.pairing.Readings.{Tags, page, write_all}
-use Rattle.cm_inline.specs.steps.Runs.{byte_of, run_of, paired_run, runs_in, pairs_in}
+use Rattle.cm_inline.specs.steps.pairing.Readings.{Tags, write_all}
+use Rattle.cm_inline.specs.steps.Runs.{byte_of, paired_run, runs_in, pairs_in}
 use Rattle.cm_inline.specs.steps.Writing.{Adds}
 use Rattle.cm_inline.proofs.lemmas.HtmlLemmas.{run-html}
-use Rattle.cm_inline.proofs.lemmas.LaidLemmas.{get_or-map}
 use Rattle.cm_inline.proofs.lemmas.TagLemmas.{length-pairs}
 use Rattle.cm_inline.proofs.lemmas.WriteLemmas.{write-append}
+use Rattle.std.specs.Prelude.{replicate}
 
 -- the pairs that a run knows of are there
 pub record RunKnown (pairs : List made.Pair) (r : held.Run) : Type 0 where
@@ -32,10 +30,4 @@ pub run-written : (pairs first second : List made.Pair) (number : ℕ) (r : held
     → Adds Tags html (ends_between (pairs_in first) r.from r.to) ended → left ≡ ended ++ replicate r.run.left (byte_of r.run.marker) → Adds Tags left (starts (pairs_in second) r.opened) new
     → Adds Tags html (run_events (pairs_in pairs) number (paired_run r)) new
 unfolding write_all
-run-written pairs first second number r html ended left new same again ends rest opened =
-    let list = pairs_in pairs in
-    write-append (page html Tags) (ends_between list r.from r.to) (Rest number (run_of r.run) ∷ starts list r.opened)
-    ∙ ap (λ p. write_all p (Rest number (run_of r.run) ∷ starts list r.opened)) (ap (λ ps. write_all (page html Tags) (ends_between (pairs_in ps) r.from r.to)) (sym same) ∙ ends)
-    ∙ ap (λ t. write_all (page (ended ++ t) Tags) (starts list r.opened)) (run-html r.run.marker r.run.left)
-    ∙ ap (λ t. write_all (page t Tags) (starts list r.opened)) (sym rest)
-    ∙ ap (λ ps. write_all (page left Tags) (starts (pairs_in ps) r.opened)) (sym again) ∙ opened
+run-written pairs first second number r html ended left new same again ends rest opened = search (rules, write-append, run-html)

@@ -1,24 +1,16 @@
 -- The search down the list finds the nearest opener among the items, within the looks that may still be made.
-use Rattle.std.proofs.Common.{◌≡◌, ◌⊎◌, inl, inr, ℕ, zero, suc, ◌<◌, ◌≤◌, Bool, true, false, cond, ◌&&◌, nat_le, nat_lt, List, [], ◌∷◌, ◌++◌, length, get_or, set, Option, Some, None, refl, sym, ap, subst, ◌∙◌, arith}
-use Rattle.std.proofs.lemmas.Bool.{cond-true, cond-false, ltb-true, ltb-false, le-leb}
-use Rattle.std.proofs.lemmas.Option.{none-some, same_Some}
-use Rattle.std.proofs.lemmas.List.{get_or-set_other}
-use Rattle.cm_scan.specs.inlines.Delimiters.{Run}
+use Rattle.cm_inline.proofs.lemmas.Words.{◌≡◌, ◌⊎◌, inl, inr, ℕ, zero, suc, ◌<◌, ◌≤◌, Bool, true, false, cond, ◌&&◌, nat_le, List, [], ◌∷◌, ◌++◌, length, get_or, set}
+use Rattle.cm_inline.proofs.lemmas.Words.{Option, Some, None, refl, sym, ap, subst, ◌∙◌, arith, cond-true, cond-false, ltb-true, ltb-false, le-leb, same_Some}
+use Rattle.cm_inline.proofs.lemmas.Words.{get_or-set_other, Run}
+use Rattle.std.proofs.Common.{nat_lt}
+use Rattle.std.proofs.lemmas.Option.{none-some}
 use Rattle.cm_inline.specs.steps.Entries.{Entry, answers, above, Below, Falling}
 use Rattle.cm_inline.specs.steps.Searching.{kind, IsMarked, find_opener, looks_for, from_found, NoneBeneath, NoneAnswers, AreSound}
 use Rattle.cm_inline.proofs.lemmas.BottomLemmas.{kind-match}
 use Rattle.cm_inline.proofs.lemmas.ReserveLemmas.{above-cons}
 use Rattle.cm_inline.proofs.lemmas.NumberLemmas.{nat-split as nat_split}
 
--- what a search finds: the entries passed, and the opener
-pub record Found (c : Run) (es : List Entry) (e : Entry) : Type 0 where
-  pub passed : List Entry
-  pub below : List Entry
-  pub whole : es ≡ passed ++ e ∷ below
-  pub none : NoneAnswers c passed
-  pub opens : answers c e ≡ true
-
--- and how many looks it takes
+-- what a search finds: the entries passed, the opener, and how many looks it takes
 pub record FoundBy (c : Run) (bottom : ℕ) (es : List Entry) (e : Entry) : Type 0 where
   pub passed : List Entry
   pub below : List Entry
@@ -65,9 +57,9 @@ beneath-all : (c : Run) (bottom : ℕ) (es : List Entry) → Below bottom es →
 beneath-all c bottom [] b h = tt
 beneath-all c bottom (e ∷ es) b h = (h.0 b.0, beneath-all c bottom es b.1 h.1)
 
-below_more : (n m : ℕ) (es : List Entry) → n ≤ m → Below n es → Below m es
-below_more n m [] p h = tt
-below_more n m (e ∷ es) p h = let q : e.place < n = h.0 in (omega arith, below_more n m es p h.1)
+pub below-more : (n m : ℕ) (es : List Entry) → n ≤ m → Below n es → Below m es
+below-more n m [] p h = tt
+below-more n m (e ∷ es) p h = let q : e.place < n = h.0 in (omega arith, below-more n m es p h.1)
 
 abbrev one_if : Bool → ℕ
 one_if b = cond b 1 0
@@ -106,7 +98,7 @@ find-none c bottom (x ∷ es) f n h = go (nat_lt x.place bottom) refl (answers c
     go : (b : Bool) → nat_lt x.place bottom ≡ b → (a : Bool) → answers c x ≡ a → (find_opener c bottom es ≡ None → NoneAnswers c es) → NoneAnswers c (x ∷ es)
     go true p a q ih =
         let low : x.place < bottom = ltb-true x.place bottom p in
-        beneath-all c bottom (x ∷ es) (low, below_more x.place bottom es (omega (arith, low)) f.0) n
+        beneath-all c bottom (x ∷ es) (low, below-more x.place bottom es (omega (arith, low)) f.0) n
     go false p true q ih = absurd (none-some x (sym h ∙ cond-false (nat_lt x.place bottom) None rest p ∙ cond-true (answers c x) (Some x) (find_opener c bottom es) q))
     go false p false q ih = (q, ih (sym (cond-false (nat_lt x.place bottom) None rest p ∙ cond-false (answers c x) (Some x) (find_opener c bottom es) q) ∙ h))
 

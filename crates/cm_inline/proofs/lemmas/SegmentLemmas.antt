@@ -1,20 +1,20 @@
 -- What the parts that a pass has come to stand for, and a made item that it comes to.
-use Rattle.std.proofs.Common.{◌≡◌, ℕ, ◌<◌, ◌≤◌, false, List, [], ◌∷◌, ◌++◌, length, reverse, get_or, refl, sym, ap, subst, ◌∙◌, arith, append-nil, append_assoc}
-use Rattle.cm_scan.specs.inlines.Pairing.{Item, Characters, Finished, Linked, Delimiters, Opener, pair_all, emphasis_of}
-use Rattle.cm_scan.specs.inlines.OnePass.{pass_from}
-use Rattle.cm_scan.proofs.lemmas.inlines.OnePassLemmas.{pairs_in_one_pass}
-use Rattle.cm_inline.specs.steps.Entries.{Entry, Listed, Below}
-use Rattle.cm_inline.specs.steps.pairing.ClosingRuns.{State, so_far, PartsHold}
+use Rattle.cm_inline.proofs.lemmas.Words.{◌≡◌, ℕ, ◌≤◌, false, List, [], ◌∷◌, ◌++◌, length, reverse, sym, ap, subst, ◌∙◌, arith, append-nil, append_assoc, Item}
+use Rattle.cm_inline.proofs.lemmas.Words.{Finished, Delimiters, pair_all, emphasis_of, pass_from, pairs_in_one_pass, rules, nat_tests}
+use Rattle.cm_inline.specs.steps.Entries.{Entry, Listed}
+use Rattle.cm_inline.specs.steps.pairing.ClosingRuns.{State, PartsHold}
 use Rattle.cm_inline.specs.steps.pairing.Events.{Event, Rest, Tag, Start, End, made_of}
 use Rattle.cm_inline.specs.steps.pairing.Readings.{IsAlone, StandFor}
 use Rattle.cm_inline.specs.steps.pairing.Parts.{Pair, PairedRun, Part, Known, ends, events_of, Rising}
 use Rattle.cm_inline.specs.steps.pairing.Segments.{is_run, IsMade}
 use Rattle.cm_inline.specs.steps.pairing.Stacks.{NoneOpens, Stacked}
 use Rattle.cm_inline.specs.steps.pairing.WaitingOpeners.{WaitAsOpeners}
-use Rattle.cm_inline.proofs.lemmas.ClosingLemmas.{events-append, parts-append, under-append, drop-all}
+use Rattle.cm_inline.proofs.lemmas.ClosingLemmas.{parts-append, under-append, drop-all}
 use Rattle.cm_inline.proofs.lemmas.ReadingLemmas.{reads-rest, reads-wrap}
 use Rattle.cm_inline.proofs.lemmas.StackLemmas.{holds-append}
 use Rattle.cm_inline.proofs.lemmas.WaitLemmas.{waits-others}
+use Rattle.cm_inline.proofs.lemmas.LaidLemmas.{events-append}
+use Rattle.cm_inline.proofs.lemmas.SearchLemmas.{below-more}
 
 -- the last entry holds for the run that it is of
 stacked-means : (es : List Entry) (fs : List Event) (items : List Item) → Stacked es fs items → StandFor fs (reverse items)
@@ -26,9 +26,7 @@ stacked-means (e ∷ es) fs items s =
 
 -- at the end of a pass the parts stand for what the items come to
 pub pass-means : (parts : List Part) (s : State) (before : List Item) → PartsHold parts (length s.pairs) s before → StandFor (events_of s.runs s.pairs parts) (reverse before)
-pass-means parts s before w =
-    subst (λ fs. StandFor fs (reverse before)) (ap (λ t. events_of s.runs s.pairs parts ++ ends t) (drop-all s.pairs) ∙ append-nil (events_of s.runs s.pairs parts))
-    (stacked-means s.list.entries (so_far parts (length s.pairs) s) before w.waits.stacked)
+pass-means parts s before w = search (rules, drop-all, append-nil, stacked-means)
 
 pub pass-pairs : (parts : List Part) (s : State) (items before : List Item) → PartsHold parts (length s.pairs) s before → reverse before ≡ pass_from [] items → StandFor (events_of s.runs s.pairs parts) (pair_all items)
 pass-pairs parts s items before w h = subst (StandFor (events_of s.runs s.pairs parts)) (h ∙ sym (pairs_in_one_pass items)) (pass-means parts s before w)
@@ -43,44 +41,21 @@ link-means runs pairs parts items tag stands alone =
 
 none : (item : Item) → is_run item ≡ false → NoneOpens (item ∷ [])
 unfolding NoneOpens
-none (Characters t) h = (refl, tt)
-none (Finished i) h = (refl, tt)
-none (Linked i) h = (refl, tt)
-none (Opener b t) h = (refl, tt)
-none (Delimiters r) h = absurd (cc h)
-
-below-more : (n m : ℕ) (es : List Entry) → n ≤ m → Below n es → Below m es
-below-more n m [] p h = tt
-below-more n m (e ∷ es) p h = let q : e.place < n = h.0 in (omega arith, below-more n m es p h.1)
+none item h = grind (arith, nat_tests)
 
 -- the next number may be a higher one
 pub waits-raised : {fs : List Event} {before : List Item} {l : Listed} {bs : List ℕ} (n : ℕ) → l.next ≤ n → WaitAsOpeners fs before l bs → WaitAsOpeners fs before (record l { next = n }) bs
-waits-raised {fs} {before} {l} {bs} n h w = record {
-  stacked = w.stacked;
-  falling = w.falling;
-  under = below-more l.next n l.entries h w.under;
-  size = w.size;
-  low = λ k. (let q : get_or bs k 0 ≤ l.next = w.low k in omega (arith, q, h));
-  sound = w.sound;
-}
+waits-raised {fs} {before} {l} {bs} n h w = search (rules, below-more)
 
 -- A made item's parts go behind those that the pass has come to.
 pub pass-made : (done ms : List Part) (item : Item) (high : ℕ) (s : State) (before : List Item) → PartsHold done (length s.pairs) s before → IsMade s.runs s.pairs s.list.next ms item high
     → Rising 0 (events_of s.runs s.pairs done ++ events_of s.runs s.pairs ms)
     → PartsHold (done ++ ms) (length s.pairs) (record s { list = record s.list { next = high } }) (item ∷ before)
-pass-made done ms item high s before w m rising = record {
-  waits = subst (λ fs. WaitAsOpeners fs (item ∷ before) (record s.list { next = high }) s.bottoms) (sym whole) (waits-raised high m.high_is (waits-others (events_of s.runs s.pairs done) (events_of s.runs s.pairs ms) before (item ∷ []) s.list s.bottoms waits m.means (none item m.other)));
-  marked = parts-append s.runs s.pairs done ms w.marked m.marked;
-  under = under-append s.list.next high done ms m.high_is w.under m.under;
-  rising = subst (Rising 0) (sym whole) rising;
-  early = omega arith;
-}
-  where
-    gone : so_far done (length s.pairs) s ≡ events_of s.runs s.pairs done
-    gone = ap (λ t. events_of s.runs s.pairs done ++ ends t) (drop-all s.pairs) ∙ append-nil (events_of s.runs s.pairs done)
-
-    whole : so_far (done ++ ms) (length s.pairs) s ≡ events_of s.runs s.pairs done ++ events_of s.runs s.pairs ms
-    whole = ap (λ t. events_of s.runs s.pairs (done ++ ms) ++ ends t) (drop-all s.pairs) ∙ append-nil (events_of s.runs s.pairs (done ++ ms)) ∙ events-append s.runs s.pairs done ms
-
-    waits : WaitAsOpeners (events_of s.runs s.pairs done) before s.list s.bottoms
-    waits = subst (λ fs. WaitAsOpeners fs before s.list s.bottoms) gone w.waits
+pass-made done ms item high s before w m rising =
+    let gone = ap (λ t. events_of s.runs s.pairs done ++ ends t) (drop-all s.pairs) ∙ append-nil (events_of s.runs s.pairs done) in
+    let whole = ap (λ t. events_of s.runs s.pairs (done ++ ms) ++ ends t) (drop-all s.pairs) ∙ append-nil (events_of s.runs s.pairs (done ++ ms)) ∙ events-append s.runs s.pairs done ms in
+    let waits = subst (λ fs. WaitAsOpeners fs before s.list s.bottoms) gone w.waits in
+    search (rules,
+        (subst (λ fs. WaitAsOpeners fs (item ∷ before) (record s.list { next = high }) s.bottoms) (sym whole)
+            (waits-raised high m.high_is (waits-others (events_of s.runs s.pairs done) (events_of s.runs s.pairs ms) before (item ∷ []) s.list s.bottoms waits m.means (none item m.other)))),
+        (parts-append s.runs s.pairs done ms w.marked m.marked), (under-append s.list.next high done ms m.high_is w.under m.under), (subst (Rising 0) (sym whole) rising))

@@ -1,26 +1,18 @@
 -- What inlines marks build, one after another.
-use Rattle.std.proofs.Common.{◌≡◌, ℕ, ◌+◌, ◌-◌, ◌<◌, ◌≤◌, Bool, true, List, [], ◌∷◌, ◌++◌, length, drop, get_or, refl, sym, ap, subst, ◌∙◌}
-use Rattle.std.specs.Prelude.{encode_utf8}
-use Rattle.std.specs.List.{slice_range}
-use Rattle.std.proofs.lemmas.List.{drop_more, drop_all, get_or_read}
-use Rattle.cm_tree.specs.Definitions.{Targets}
-use Rattle.cm_tree.specs.declared.tree.Inline.{Inline}
+use Rattle.cm_inline.proofs.lemmas.Words.{◌≡◌, ℕ, ◌+◌, ◌-◌, ◌<◌, ◌≤◌, Bool, true, List, [], ◌∷◌, ◌++◌, length, drop, get_or, refl, sym, ap, subst, ◌∙◌, encode_utf8}
+use Rattle.cm_inline.proofs.lemmas.Words.{slice_range, drop_more, drop_all, get_or_read, Targets, Inline, one_line, Link, Reader, Kind, Mark, rules}
 use Rattle.cm_tree.specs.declared.tree.Inline.TheVariants as inlines
-use Rattle.cm_scan.specs.spans.CodeSpans.{one_line}
-use Rattle.cm_inline.specs.declared.brackets.Link.{Link}
-use Rattle.cm_inline.specs.declared.brackets.Reader.{Reader}
-use Rattle.cm_inline.specs.declared.marks.Kind.{Kind}
 use Rattle.cm_inline.specs.declared.marks.Kind.TheVariants as kinds
-use Rattle.cm_inline.specs.declared.marks.Mark.{Mark}
-use Rattle.cm_inline.specs.steps.pairing.Events.{Built, ended, innermost, others, add_text, add_inline, build, made_of, nothing_built, inlines_of}
-use Rattle.cm_inline.specs.steps.pairing.Parts.{part_events, events_of}
+use Rattle.cm_inline.specs.steps.pairing.Events.{Built, ended, innermost, others, add_text, add_inline, build, made_of, inlines_of}
+use Rattle.cm_inline.specs.steps.pairing.Parts.{part_events}
 use Rattle.cm_inline.specs.steps.Building.{opened, closed, IsBuiltTo}
-use Rattle.cm_inline.specs.steps.Marks.{link_tag, no_link, texts, part_of_kind, IsUnmarked, AreLaid, events_in, IsOfKind}
+use Rattle.cm_inline.specs.steps.Marks.{link_tag, part_of_kind, IsUnmarked, AreLaid, events_in, no_link, IsOfKind}
 use Rattle.cm_inline.specs.steps.Runs.{runs_in, pairs_in}
 use Rattle.cm_inline.specs.steps.Standalone.{autolink}
-use Rattle.cm_inline.specs.steps.Writing.{no_mark, mark_numbered, mark_events, events_from, IsMarkIn}
-use Rattle.cm_inline.proofs.lemmas.BuildLemmas.{build-append, texts-built}
+use Rattle.cm_inline.specs.steps.Writing.{no_mark, mark_numbered, mark_events, IsMarkIn}
+use Rattle.cm_inline.proofs.lemmas.BuildLemmas.{texts-built}
 use Rattle.cm_inline.proofs.lemmas.LaidLemmas.{events-next, events-last}
+use Rattle.cm_inline.proofs.lemmas.EventLemmas.{build-append}
 
 -- one mark
 
@@ -103,30 +95,11 @@ laid-next source targets reader m from at h b = subst (AreLaid true source targe
 
 pub built-next : (source : List ℕ) (targets : Targets) (reader : Reader) (m before new : Built) (from at : ℕ) (mark : Mark) (text : List ℕ) → at < length reader.marks.items → mark ≡ mark_numbered reader.marks.items at → IsBuiltTo source targets reader m from at
     → text ≡ slice_range source from mark.at → before ≡ add_text m text → new ≡ build before (mark_events source targets reader mark) → IsBuiltTo source targets reader new mark.end (at + 1)
-built-next source targets reader m before new from at mark text h is b of added made =
-    let k = mark_numbered reader.marks.items at in
-    let ms = drop (at + 1) reader.marks.items in
-    let laid = laid-next source targets reader m from at h b in
-    let more = mark_events source targets reader k ++ events_from source targets reader k.end ms in
-    let same_text : text ≡ slice_range source from k.at = of ∙ ap (λ (j : Mark). slice_range source from j.at) is in
-    let same_mark : new ≡ build before (mark_events source targets reader k) = made ∙ ap (λ j. build before (mark_events source targets reader j)) is in
-    subst (λ (j : Mark). IsBuiltTo source targets reader new j.end (at + 1)) (sym is)
-    (record {
-      laid = laid.3;
-      same = b.same ∙ ap (λ t. build m (events_from source targets reader from t)) (drop_more reader.marks.items at no_mark h) ∙ ap (build m) (events-next source targets reader from k ms)
-          ∙ build-append m (events_of (runs_in reader.runs.runs.items) (pairs_in reader.runs.pairs.items) (texts (slice_range source from k.at))) more
-          ∙ ap (λ n. build n more) (texts-built (runs_in reader.runs.runs.items) (pairs_in reader.runs.pairs.items) (slice_range source from k.at) m laid.0.text ∙ ap (add_text m) (sym same_text) ∙ sym added)
-          ∙ build-append before (mark_events source targets reader k) (events_from source targets reader k.end ms)
-          ∙ ap (λ n. build n (events_from source targets reader k.end ms)) (sym same_mark);
-    })
+built-next source targets reader m before new from at mark text h is b of added made = search (rules, laid-next, drop_more, events-next, build-append, texts-built)
 
 last-laid : (source : List ℕ) (targets : Targets) (reader : Reader) (m : Built) (from at : ℕ) → length reader.marks.items ≤ at → IsBuiltTo source targets reader m from at → IsUnmarked true source from (length source)
 last-laid source targets reader m from at h b = subst (AreLaid true source targets reader.runs.runs.items reader.links.items from (length source)) (drop_all at reader.marks.items h) b.laid
 
 pub built-last : (source : List ℕ) (targets : Targets) (reader : Reader) (m new : Built) (from at : ℕ) (text : List ℕ) (content : List Inline) → length reader.marks.items ≤ at → IsBuiltTo source targets reader m from at
     → text ≡ slice_range source from (length source) → new ≡ add_text m text → content ≡ ended new → content ≡ inlines_of (events_in source targets reader)
-built-last source targets reader m new from at text content h b of added e =
-    let whole : build nothing_built (events_in source targets reader) ≡ new =
-    b.same ∙ ap (λ t. build m (events_from source targets reader from t)) (drop_all at reader.marks.items h) ∙ ap (build m) (events-last source targets reader from)
-    ∙ texts-built (runs_in reader.runs.runs.items) (pairs_in reader.runs.pairs.items) (slice_range source from (length source)) m (last-laid source targets reader m from at h b).text ∙ ap (add_text m) (sym of) ∙ sym added in
-    e ∙ ap ended (sym whole)
+built-last source targets reader m new from at text content h b of added e = search (rules, drop_all, events-last, texts-built, last-laid)

@@ -1,23 +1,10 @@
 -- What a source comes to that is read to its end, where all pairs are made.
-use Rattle.std.proofs.Common.{◌≡◌, ℕ, ◌+◌, ◌<◌, ◌≤◌, Bool, true, false, ◌||◌, List, [], ◌∷◌, ◌++◌, length, reverse, refl, sym, ap, subst, ◌∙◌, arith, append-nil}
-use Rattle.std.specs.Prelude.{nat_lt}
-use Rattle.std.proofs.lemmas.Bool.{ltb-true}
-use Rattle.std.proofs.lemmas.List.{length-map}
-use Rattle.cm_text.specs.Rules.{Rules}
-use Rattle.cm_tree.specs.Definitions.{Targets}
-use Rattle.cm_tree.specs.Depth.{inlines_depth}
-use Rattle.cm_html.specs.Html.{inlines_html}
-use Rattle.cm_scan.specs.inlines.Brackets.{holds_link, defined_in}
+use Rattle.cm_inline.proofs.lemmas.Words.{◌≡◌, ℕ, ◌+◌, ◌<◌, ◌≤◌, Bool, true, false, ◌||◌, List, [], ◌∷◌, ◌++◌, length, reverse, refl, sym, ap, subst, ◌∙◌, arith}
+use Rattle.cm_inline.proofs.lemmas.Words.{append-nil, nat_lt, ltb-true, length-map, Rules, Targets, inlines_depth, inlines_html, holds_link, defined_in, Item}
+use Rattle.cm_inline.proofs.lemmas.Words.{pair_all, emphasis_of, in_pieces, Bracket, Reader, Mark, Plain, Runs}
 use Rattle.cm_scan.specs.inlines.Inlines as inlines
-use Rattle.cm_scan.specs.inlines.Pairing.{Item, pair_all, emphasis_of}
-use Rattle.cm_scan.specs.inlines.Pieces.{in_pieces}
 use Rattle.cm_inline.specs.Emphases.{emphases}
 use Rattle.cm_inline.specs.Reading.{Read}
-use Rattle.cm_inline.specs.declared.brackets.Bracket.{Bracket}
-use Rattle.cm_inline.specs.declared.brackets.Reader.{Reader}
-use Rattle.cm_inline.specs.declared.marks.Mark.{Mark}
-use Rattle.cm_inline.specs.declared.marks.Kind.TheVariants.{Plain}
-use Rattle.cm_inline.specs.declared.runs.Runs.{Runs}
 use Rattle.cm_inline.specs.steps.pairing.Events.{Event, inlines_of}
 use Rattle.cm_inline.specs.steps.pairing.Parts.{events_of}
 use Rattle.cm_inline.specs.steps.pairing.Passes.{CanPass, WaitFrom, AllPaired}

@@ -1,7 +1,6 @@
 -- A source between its places.
-use Rattle.std.proofs.Common.{◌≡◌, ℕ, ◌+◌, ◌-◌, ◌<◌, ◌≤◌, List, [], ◌∷◌, ◌++◌, length, take, drop, get_or, reverse, sym, ap, ◌∙◌, arith, drop-drop, take-add}
-use Rattle.std.specs.List.{slice_range}
-use Rattle.std.proofs.lemmas.List.{reverse-append, drop_more, take-append-drop}
+use Rattle.cm_inline.proofs.lemmas.Words.{◌≡◌, ℕ, ◌+◌, ◌-◌, ◌<◌, ◌≤◌, List, [], ◌∷◌, ◌++◌, length, take, drop, get_or, reverse, sym, ap, ◌∙◌, arith, drop-drop}
+use Rattle.cm_inline.proofs.lemmas.Words.{take-add, slice_range, reverse-append, drop_more, take-append-drop, rules}
 
 -- the source between two places
 pub slice-front : (source : List ℕ) (at end : ℕ) → at ≤ end → drop at source ≡ slice_range source at end ++ drop end source
@@ -31,8 +30,7 @@ pub slice-both : (source : List ℕ) (from to end : ℕ) → from ≤ to → to 
 slice-both source from to end first second =
     let long : end - from ≡ to - from + (end - to) = omega (arith, first, second) in
     let place : from + (to - from) ≡ to = omega (arith, first) in
-    ap (λ n. take n (drop from source)) long ∙ take-add (to - from) (end - to) (drop from source)
-    ∙ ap (λ t. slice_range source from to ++ take (end - to) t) (drop-drop (to - from) from source ∙ ap (λ n. drop n source) place)
+    search (rules, take-add, drop-drop)
 
 pub slice-none : (source : List ℕ) (from : ℕ) → slice_range source from from ≡ []
 slice-none source from = let none : from - from ≡ 0 = omega arith in ap (λ n. take n (drop from source)) none

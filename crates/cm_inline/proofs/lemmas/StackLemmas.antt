@@ -1,11 +1,7 @@
 -- A closer's search from the top of the stack of openers, and what its pair does to the stack and to the events.
-use Rattle.std.proofs.Common.{◌≡◌, ℕ, ◌≤◌, Bool, true, false, cond, nat_le, ◌&&◌, List, [], ◌∷◌, ◌++◌, reverse, Some, None, refl, sym, ap, subst, ◌∙◌, arith, append_assoc}
-use Rattle.std.proofs.lemmas.List.{reverse-append, reverse-reverse}
-use Rattle.std.proofs.lemmas.Bool.{leb-true}
-use Rattle.cm_scan.specs.inlines.Delimiters.{Run, delimiters_match}
-use Rattle.cm_scan.specs.inlines.Pairing.{Item, Characters, Finished, Linked, Delimiters, Opener, nearest_opener, used, emphasised, settled, without}
-use Rattle.cm_scan.specs.inlines.OnePass.{up_to_pair}
-use Rattle.cm_scan.proofs.lemmas.inlines.PairingLemmas.{opened_at}
+use Rattle.cm_inline.proofs.lemmas.Words.{◌≡◌, ℕ, ◌≤◌, Bool, true, false, cond, nat_le, ◌&&◌, List, [], ◌∷◌, ◌++◌, reverse, Some, None, refl, sym, ap, subst, ◌∙◌}
+use Rattle.cm_inline.proofs.lemmas.Words.{arith, append_assoc, reverse-append, reverse-reverse, leb-true, Run, delimiters_match, Item, Finished, Delimiters}
+use Rattle.cm_inline.proofs.lemmas.Words.{nearest_opener, used, emphasised, settled, without, up_to_pair, opened_at, rules}
 use Rattle.cm_inline.specs.steps.Entries.{Entry, answers}
 use Rattle.cm_inline.specs.steps.Searching.{NoneAnswers}
 use Rattle.cm_inline.proofs.lemmas.BottomLemmas.{NoOpener, nearest-none, nearest-at}
@@ -31,11 +27,8 @@ no-append c (x ∷ xs) ys p q = (p.0, no-append c xs ys p.1 q)
 none-no : (c : Run) (xs : List Item) → NoneOpens xs → NoOpener c xs
 unfolding NoneOpens NoOpener
 none-no c [] p = tt
-none-no c (Characters t ∷ xs) p = (refl, none-no c xs p.1)
-none-no c (Finished i ∷ xs) p = (refl, none-no c xs p.1)
-none-no c (Linked i ∷ xs) p = (refl, none-no c xs p.1)
-none-no c (Opener b s ∷ xs) p = (refl, none-no c xs p.1)
 none-no c (Delimiters r ∷ xs) p = (ap (λ b. b && delimiters_match c r) p.0, none-no c xs p.1)
+none-no c (_ ∷ xs) p = (refl, none-no c xs p.1)
 
 -- what doesn't open goes behind the last entry
 pub stacked-more : (es : List Entry) (fs gs : List Event) (items more : List Item) → Stacked es fs items → StandFor gs (reverse more) → NoneOpens more → Stacked es (fs ++ gs) (more ++ items)
@@ -100,8 +93,7 @@ stacked-found c (x ∷ xs) e below fs items s h = go (stacked-found c xs e below
 pub stacked-no : (c : Run) (es : List Entry) (fs : List Event) (items : List Item) → Stacked es fs items → NoneAnswers c es → NoOpener c items
 unfolding NoOpener
 stacked-no c [] fs items s h = none-no c items s.1
-stacked-no c (e ∷ es) fs items s h =
-    subst (NoOpener c) (sym s.whole) (no-append c s.inside (Delimiters e.run ∷ s.low) (none-no c s.inside s.none) (h.0, stacked-no c es s.front s.low s.below h.1))
+stacked-no c (e ∷ es) fs items s h = search (rules, no-append, none-no, (stacked-no c es s.front s.low s.below h.1))
 
 -- so the search of the stack finds what the definition finds
 pub found-nearest : (c : Run) (e : Entry) (below : List Entry) (fs : List Event) (items : List Item) (f : Found c e below fs items) → answers c e ≡ true → nearest_opener c items [] ≡ Some (opened_at e.run f.low (reverse f.inside))
@@ -119,19 +111,13 @@ abbrev pub pair_items : Run → Run → (low inside : List Item) → List Item
 pair_items c o low inside = Finished (emphasised c.character (used o c) (settled (reverse inside))) ∷ (without (used o c) o ++ low)
 
 without-reversed : (n : ℕ) (r : Run) → reverse (without n r) ≡ without n r
-without-reversed n r = go (nat_le r.left n)
-  where
-    go : (b : Bool) → reverse (cond b [] (Delimiters (taken n r) ∷ [])) ≡ cond b [] (Delimiters (taken n r) ∷ [])
-    go true = refl
-    go false = refl
+without-reversed n r = elim (nat_le r.left n) as (λ b. reverse (cond b [] (Delimiters (taken n r) ∷ [])) ≡ cond b [] (Delimiters (taken n r) ∷ [])) [ true ↦ refl | false ↦ refl ]
 
 pub pair-items : (c o : Run) (low inside : List Item) → reverse (up_to_pair (opened_at o low (reverse inside)) c) ≡ pair_items c o low inside
 pair-items c o low inside =
+    let made = Finished (emphasised c.character (used o c) (settled (reverse inside))) in
     reverse-append (reverse low ++ without (used o c) o) (made ∷ [])
     ∙ ap (λ t. made ∷ t) (reverse-append (reverse low) (without (used o c) o) ∙ ap (λ t. t ++ reverse (reverse low)) (without-reversed (used o c) o) ∙ ap (λ t. without (used o c) o ++ t) (reverse-reverse low))
-  where
-    made : Item
-    made = Finished (emphasised c.character (used o c) (settled (reverse inside)))
 
 pub pair-stacked : (c : Run) (e : Entry) (below : List Entry) (fs : List Event) (items : List Item) (f : Found c e below fs items) →
     Stacked (rest_of (used e.run c) e ++ below) (pair_events c e below fs items f) (pair_items c e.run f.low f.inside)

@@ -1,23 +1,14 @@
 -- Texts cut in pieces, and what marks that were read stand for.
-use Rattle.std.proofs.Common.{◌≡◌, ℕ, zero, suc, ◌+◌, ◌<◌, ◌≤◌, ◌==◌, ◌&&◌, Bool, true, false, List, [], ◌∷◌, ◌++◌, length, map, get_or, refl, sym, ap, subst, ◌∙◌, arith, append_assoc, append-nil, length-append}
-use Rattle.std.specs.Prelude.{if◌then◌else◌}
-use Rattle.std.specs.List.{list_all, concat}
-use Rattle.std.proofs.lemmas.Bool.{and_parts}
-use Rattle.std.proofs.lemmas.Bool.Decides.{nat_tests}
-use Rattle.std.proofs.lemmas.Grind.{flat_map-append}
-use Rattle.cm_html.specs.Escape.{escape, escape_byte}
-use Rattle.cm_tree.specs.Depth.{depth_of}
-use Rattle.cm_tree.specs.declared.tree.Inline.{Inline}
+use Rattle.cm_inline.proofs.lemmas.Words.{◌≡◌, ℕ, ◌+◌, ◌≤◌, ◌==◌, ◌&&◌, Bool, true, false, List, [], ◌∷◌, ◌++◌, map, refl, sym, ap, subst, ◌∙◌, arith, append_assoc}
+use Rattle.cm_inline.proofs.lemmas.Words.{append-nil, if◌then◌else◌, list_all, concat, and_parts, nat_tests, flat_map-append, escape, escape_byte, depth_of, Inline}
+use Rattle.cm_inline.proofs.lemmas.Words.{Item, Characters, Finished, Opener, bracket_text, get_or_append_left, rules}
 use Rattle.cm_tree.specs.declared.tree.Inline.TheVariants as inline
-use Rattle.cm_html.specs.Html.{rendered}
-use Rattle.cm_scan.specs.inlines.Pairing.{Item, Characters, Finished, Opener, bracket_text}
 use Rattle.cm_inline.specs.steps.pairing.ClosingRuns.{AreUnder}
-use Rattle.cm_inline.specs.steps.pairing.Events.{Event, Text, Whole, Start, End, Rest, Built, build, add_text}
-use Rattle.cm_inline.specs.steps.pairing.Parts.{Pair, PairedRun, Part, Numbered, Known, no_run, run_events, events_of, AreParts, Rising, HaveNoRun, IsNoRun}
-use Rattle.cm_inline.specs.steps.pairing.Readings.{Tags, Alternative, Mode, page, write_all, deepest, StandFor}
+use Rattle.cm_inline.specs.steps.pairing.Events.{Event, Text, Whole, Rest, Built, build, add_text}
+use Rattle.cm_inline.specs.steps.pairing.Parts.{Pair, PairedRun, Part, Numbered, Known, events_of, AreParts, Rising, HaveNoRun, IsNoRun}
+use Rattle.cm_inline.specs.steps.pairing.Readings.{Mode, page, write_all, deepest, StandFor}
 use Rattle.cm_inline.specs.steps.pairing.Paired.{AreRuns}
-use Rattle.cm_inline.specs.steps.pairing.Passes.{number_after}
-use Rattle.cm_inline.specs.steps.pairing.Segments.{Segment, Waiting, Made, is_run, all_parts, IsMade, AreSegments}
+use Rattle.cm_inline.specs.steps.pairing.Segments.{Segment, Waiting, Made, is_run, IsMade}
 use Rattle.cm_inline.specs.steps.Marks.{text_event, texts, stays_text}
 
 -- texts side by side
@@ -47,15 +38,7 @@ cut-nests (t ∷ ts) depth most more = cut-nests ts depth most more
 -- Texts side by side stand for the characters of them all.
 pub cut-stands : (ts : List (List ℕ)) → StandFor (text_events ts) (Characters (concat ts) ∷ [])
 unfolding build write_all
-cut-stands ts = record {
-  means = λ m. cut-means ts m;
-  writes = record {
-    tags = λ html. cut-writes ts html Tags ∙ ap (λ t. page (html ++ t) Tags) (sym (append-nil (escape (concat ts))));
-    alternative = λ html n free. cut-writes ts html (Alternative n) ∙ ap (λ t. page (html ++ t) (Alternative n)) (sym (append-nil (escape (concat ts))));
-  };
-  nests = λ depth most more low. cut-nests ts depth most more ∙ ap (λ n. deepest depth n more) (omega (arith, low));
-  near = record { bound = omega arith };
-}
+cut-stands ts = search (rules, cut-means, cut-writes, append-nil, cut-nests)
 
 -- a text of which each byte stays text
 abbrev bytes-of : List ℕ → List (List ℕ)
@@ -84,27 +67,11 @@ text-stands t = subst (λ u. StandFor (Text t ∷ []) (Characters u ∷ [])) (ap
 
 pub opener-stands : (image : Bool) (source : List ℕ) → StandFor (Text (bracket_text image) ∷ []) (Opener image source ∷ [])
 unfolding build write_all deepest
-opener-stands image source = record {
-  means = λ m. refl;
-  writes = record {
-    tags = λ html. ap (λ t. page (html ++ t) Tags) (sym (append-nil (escape (bracket_text image))));
-    alternative = λ html n free. ap (λ t. page (html ++ t) (Alternative n)) (sym (append-nil (escape (bracket_text image))));
-  };
-  nests = λ depth most more low. ap (λ n. deepest depth n more) (omega (arith, low));
-  near = record { bound = omega arith };
-}
+opener-stands image source = search rules
 
 pub inline-stands : (i : Inline) → depth_of i ≤ 1 → StandFor (Whole i ∷ []) (Finished i ∷ [])
 unfolding build write_all deepest
-inline-stands i shallow = record {
-  means = λ m. refl;
-  writes = record {
-    tags = λ html. ap (λ t. page (html ++ t) Tags) (sym (append-nil (rendered i).html));
-    alternative = λ html n free. ap (λ t. page (html ++ t) (Alternative n)) (sym (append-nil (escape (rendered i).plain)));
-  };
-  nests = λ depth most more low. ap (λ n. deepest depth n more) (omega (arith, low));
-  near = record { bound = omega (arith, shallow) };
-}
+inline-stands i shallow = search rules
 
 -- parts that hold no run
 abbrev pub AreKnown : List Part → Type 0
@@ -125,10 +92,7 @@ known-under n (Known fs ∷ ms) h = known-under n ms h.1
 none-rising : (low : ℕ) (fs gs : List Event) → HaveNoRun fs → Rising low gs → Rising low (fs ++ gs)
 none-rising low [] gs h r = r
 none-rising low (Rest number run ∷ fs) gs h r = absurd h.0
-none-rising low (Text t ∷ fs) gs h r = none-rising low fs gs h.1 r
-none-rising low (Whole i ∷ fs) gs h r = none-rising low fs gs h.1 r
-none-rising low (Start tag ∷ fs) gs h r = none-rising low fs gs h.1 r
-none-rising low (End tag ∷ fs) gs h r = none-rising low fs gs h.1 r
+none-rising low (_ ∷ fs) gs h r = none-rising low fs gs h.1 r
 
 known-rising : (low : ℕ) (runs : List PairedRun) (pairs : List Pair) (ms : List Part) → AreKnown ms → Rising low (events_of runs pairs ms)
 unfolding events_of
@@ -138,23 +102,12 @@ known-rising low runs pairs (Known fs ∷ ms) h = none-rising low fs (events_of 
 
 -- So they are made of an item that they stand for.
 pub known-made : (runs : List PairedRun) (pairs : List Pair) (low : ℕ) (ms : List Part) (item : Item) → AreKnown ms → is_run item ≡ false → StandFor (events_of runs pairs ms) (item ∷ []) → IsMade runs pairs low ms item low
-known-made runs pairs low ms item known other means = record {
-  means = means;
-  other = other;
-  marked = known-parts runs pairs ms known;
-  rising = known-rising low runs pairs ms known;
-  under = known-under low ms known;
-  high_is = omega arith;
-}
+known-made runs pairs low ms item known other means = search (rules, known-parts, known-rising, known-under)
 
 -- text
 pub texts-known : (text : List ℕ) → AreKnown (texts text)
 texts-known [] = tt
-texts-known (b ∷ bs) = ((one (b == 10), tt), texts-known bs)
-  where
-    one : (feed : Bool) → IsNoRun (if feed then Whole inline.Soft else Text (b ∷ []))
-    one true = tt
-    one false = tt
+texts-known (b ∷ bs) = (((elim (b == 10) as (λ feed. IsNoRun (if feed then Whole inline.Soft else Text (b ∷ []))) [ true ↦ tt | false ↦ tt ]), tt), texts-known bs)
 
 pub texts-events : (runs : List PairedRun) (pairs : List Pair) (text : List ℕ) → events_of runs pairs (texts text) ≡ map text_event text
 unfolding events_of
@@ -176,12 +129,6 @@ stays-any false (b ∷ bs) h =
     weaker b h = grind (arith, nat_tests, h)
 
 -- Segments, one after another, and with more runs.
-pub segments-split : (runs : List PairedRun) (pairs : List Pair) (low : ℕ) (xs ys : List Segment) → AreSegments runs pairs low (xs ++ ys) → AreSegments runs pairs low xs × AreSegments runs pairs (number_after low xs) ys
-unfolding number_after
-segments-split runs pairs low [] ys h = (tt, h)
-segments-split runs pairs low (Waiting number run ∷ xs) ys h = let rest = segments-split runs pairs (number + 1) xs ys h.3 in ((h.0, h.1, h.2, rest.0), rest.1)
-segments-split runs pairs low (Made parts item high ∷ xs) ys h = let rest = segments-split runs pairs high xs ys h.1 in ((h.0, rest.0), rest.1)
-
 pub runs-append : (xs ys : List Segment) → AreRuns xs → AreRuns ys → AreRuns (xs ++ ys)
 runs-append [] ys h g = g
 runs-append (Waiting number run ∷ xs) ys h g = (h.0, h.1, runs-append xs ys h.2 g)
@@ -192,45 +139,8 @@ runs-split [] ys h = (tt, h)
 runs-split (Waiting number run ∷ xs) ys h = let rest = runs-split xs ys h.2 in ((h.0, h.1, rest.0), rest.1)
 runs-split (Made parts item high ∷ xs) ys h = runs-split xs ys h
 
-get-front : (xs ys : List PairedRun) (n : ℕ) → n < length xs → get_or (xs ++ ys) n no_run ≡ get_or xs n no_run
-get-front [] ys n h = absurd (omega (arith, h))
-get-front (x ∷ xs) ys zero h = refl
-get-front (x ∷ xs) ys (suc n) h = get-front xs ys n (omega (arith, h))
-
 pub events-more : (runs more : List PairedRun) (pairs : List Pair) (ms : List Part) → AreParts runs pairs ms → events_of (runs ++ more) pairs ms ≡ events_of runs pairs ms
 unfolding events_of
 events-more runs more pairs [] h = refl
-events-more runs more pairs (Numbered number ∷ ms) h =
-    ap (λ r. run_events pairs number r ++ events_of (runs ++ more) pairs ms) (get-front runs more number h.0) ∙ ap (λ t. run_events pairs number (get_or runs number no_run) ++ t) (events-more runs more pairs ms h.3)
+events-more runs more pairs (Numbered number ∷ ms) h = search (rules, get_or_append_left, (events-more runs more pairs ms h.3))
 events-more runs more pairs (Known fs ∷ ms) h = ap (λ t. fs ++ t) (events-more runs more pairs ms h.1)
-
-parts-more : (runs more : List PairedRun) (pairs : List Pair) (ms : List Part) → AreParts runs pairs ms → AreParts (runs ++ more) pairs ms
-parts-more runs more pairs [] h = tt
-parts-more runs more pairs (Numbered number ∷ ms) h =
-    let same = get-front runs more number h.0 in
-    (omega (arith, h.0, length-append runs more), omega (arith, h.1, ap (λ (r : PairedRun). r.opened) same), omega (arith, h.2, ap (λ (r : PairedRun). r.to) same), parts-more runs more pairs ms h.3)
-parts-more runs more pairs (Known fs ∷ ms) h = (h.0, parts-more runs more pairs ms h.1)
-
-pub segments-more : (runs more : List PairedRun) (pairs : List Pair) (low : ℕ) (ss : List Segment) → AreSegments runs pairs low ss → AreSegments (runs ++ more) pairs low ss
-segments-more runs more pairs low [] h = tt
-segments-more runs more pairs low (Waiting number run ∷ ss) h =
-    (h.0, omega (arith, h.1, length-append runs more), get-front runs more number h.1 ∙ h.2, segments-more runs more pairs (number + 1) ss h.3)
-segments-more runs more pairs low (Made parts item high ∷ ss) h =
-    let m = h.0 in
-    let same = events-more runs more pairs parts m.marked in (
-      record { means = subst (λ fs. StandFor fs (item ∷ [])) (sym same) m.means; other = m.other; marked = parts-more runs more pairs parts m.marked; rising = subst (Rising low) (sym same) m.rising; under = m.under; high_is = m.high_is },
-      segments-more runs more pairs high ss h.1,
-    )
-
--- the parts of segments are those of runs
-pub segments-parts : (runs : List PairedRun) (pairs : List Pair) (low : ℕ) (ss : List Segment) → AreSegments runs pairs low ss → AreParts runs pairs (all_parts ss)
-unfolding all_parts
-segments-parts runs pairs low [] h = tt
-segments-parts runs pairs low (Waiting number run ∷ ss) h =
-    (h.1, omega (arith, ap (λ (r : PairedRun). r.opened) h.2), omega (arith, ap (λ (r : PairedRun). r.to) h.2), segments-parts runs pairs (number + 1) ss h.3)
-segments-parts runs pairs low (Made parts item high ∷ ss) h = parts-both runs pairs parts (all_parts ss) h.0.marked (segments-parts runs pairs high ss h.1)
-  where
-    parts-both : (runs : List PairedRun) (pairs : List Pair) (ms ns : List Part) → AreParts runs pairs ms → AreParts runs pairs ns → AreParts runs pairs (ms ++ ns)
-    parts-both runs pairs [] ns h g = g
-    parts-both runs pairs (Numbered number ∷ ms) ns h g = (h.0, h.1, h.2, parts-both runs pairs ms ns h.3 g)
-    parts-both runs pairs (Known fs ∷ ms) ns h g = (h.0, parts-both runs pairs ms ns h.1 g)

@@ -1,23 +1,13 @@
 -- Where the text of an inline is that contains no other.
-use Rattle.std.proofs.Common.{◌≡◌, ℕ, zero, suc, ◌+◌, ◌-◌, ◌<◌, ◌≤◌, ◌==◌, ◌&&◌, not, cond, Bool, true, false, List, [], ◌∷◌, ◌++◌, length, take, drop, get_or, Option, Some, None, codes, refl, sym, ap, subst, ◌∙◌, arith, length-append, length-drop, drop-drop}
-use Rattle.std.specs.Prelude.{IsUtf8}
-use Rattle.std.specs.List.{slice_range}
-use Rattle.std.specs.Str.{IsCharBoundary}
-use Rattle.std.proofs.lemmas.Bool.{eqb-true, and_parts}
-use Rattle.std.proofs.lemmas.List.{drop_more}
-use Rattle.std.proofs.lemmas.Option.{same_Some}
-use Rattle.std.proofs.lemmas.Str.{IsCharBoundary-before_ascii, IsCharBoundary-after_ascii}
-use Rattle.std.proofs.Math.Seq.{take-append_seam, drop-append_seam}
-use Rattle.cm_text.specs.Rules.{Rules}
-use Rattle.cm_text.specs.Addresses.{is_followed}
-use Rattle.cm_scan.specs.Words.{begins_with, run_length, after_run, after_word, front_of, skip}
-use Rattle.cm_scan.specs.inlines.Links.{Reading, behind}
-use Rattle.cm_scan.specs.spans.Angles.{before}
-use Rattle.cm_scan.specs.spans.Autolinks.{Autolink, is_inside, ended, in_angles, is_absolute, is_address, as_autolink, autolink, link_if_followed, followed_autolink}
-use Rattle.cm_scan.specs.Scanned.{whole_of}
-use Rattle.cm_scan.specs.spans.CodeSpans.{up_to_run, as_written, spanned_as_written}
-use Rattle.cm_scan.proofs.lemmas.texts.WordsGoOn.{none-some}
-use Rattle.cm_scan.proofs.lemmas.texts.ScannerAnswers.{begins-at}
+use Rattle.cm_inline.proofs.lemmas.Words.{◌≡◌, ℕ, zero, suc, ◌+◌, ◌-◌, ◌<◌, ◌≤◌, ◌==◌, ◌&&◌, not, Bool, true, false, List, [], ◌∷◌, ◌++◌, length, take, drop, get_or}
+use Rattle.cm_inline.proofs.lemmas.Words.{Option, Some, None, refl, sym, ap, subst, ◌∙◌, arith, length-append, length-drop, drop-drop, IsUtf8, slice_range}
+use Rattle.cm_inline.proofs.lemmas.Words.{IsCharBoundary, eqb-true, and_parts, drop_more, same_Some, IsCharBoundary-before_ascii, IsCharBoundary-after_ascii}
+use Rattle.cm_inline.proofs.lemmas.Words.{drop-append_seam, Rules, begins_with, run_length, after_run, after_word, Reading, behind, before, Autolink}
+use Rattle.cm_inline.proofs.lemmas.Words.{followed_autolink, whole_of, up_to_run, spanned_as_written, none-some, begins-at, rules, nat_tests}
+use Rattle.std.proofs.Math.Seq.{take-append_seam}
+use Rattle.cm_scan.specs.Words.{front_of, skip}
+use Rattle.cm_scan.specs.spans.Autolinks.{in_angles, as_autolink, autolink}
+use Rattle.cm_scan.specs.spans.CodeSpans.{as_written}
 use Rattle.cm_inline.specs.steps.Standalone.{IsBetween}
 
 -- what is before the next run is the front of the text, and a backtick is after it
@@ -74,55 +64,26 @@ span-placed source at start inside rest e left boundary =
     let size : start + length inside - start ≡ length inside = omega arith in
     let tick : begins_with 96 (drop (start + length inside) source) ≡ true = ap (begins_with 96) (sym (drop-drop (length inside) start source)) ∙ w.tick in
     let found = begins-at 96 source (start + length inside) tick in
-    record {
-      is = ap (λ n. take n (drop start source)) size ∙ w.front;
-      between = (omega arith, boundary, IsCharBoundary-before_ascii source (start + length inside) found.0 (omega (arith, found.2)));
-    }
+    search rules
 
 -- what is between `<` and `>`
 
 front-skip : (test : ℕ → Bool) (bs : List ℕ) → front_of test bs ++ skip test bs ≡ bs
 unfolding front_of skip
 front-skip test [] = refl
-front-skip test (b ∷ bs) = go (front-skip test bs) (test b)
-  where
-    go : front_of test bs ++ skip test bs ≡ bs → (v : Bool) → (elim v as (λ _. List ℕ) [ true ↦ b ∷ front_of test bs | false ↦ [] ]) ++ (elim v as (λ _. List ℕ) [ true ↦ skip test bs | false ↦ b ∷ bs ]) ≡ b ∷ bs
-    go again true = ap (λ t. b ∷ t) again
-    go again false = refl
+front-skip test (b ∷ bs) = search (rules, (front-skip test bs))
 
 one-word : (c : ℕ) (text rest : List ℕ) → after_word (c ∷ []) text ≡ Some rest → text ≡ c ∷ rest
 unfolding after_word
-one-word c [] rest e = none-some e
-one-word c (b ∷ bs) rest e = go (b == c) refl e
-  where
-    go : (v : Bool) → (b == c) ≡ v → (elim v as (λ _. Option (List ℕ)) [ true ↦ Some bs | false ↦ None ]) ≡ Some rest → b ∷ bs ≡ c ∷ rest
-    go true is h = ap (λ t. t ∷ bs) (eqb-true b c is) ∙ ap (λ t. c ∷ t) (same_Some bs rest h)
-    go false is h = none-some h
+one-word c text rest e = grind (arith, nat_tests, none-some, eqb-true, same_Some)
 
 angled : (text : List ℕ) (r : Reading) → in_angles text ≡ Some r → text ≡ 60 ∷ (r.text ++ 62 ∷ r.rest)
 unfolding in_angles
-angled text r e = go (after_word (codes "<") text) refl e
-  where
-    close : (inside : List ℕ) (o : Option (List ℕ)) → after_word (codes ">") (skip is_inside inside) ≡ o → ended (front_of is_inside inside) o ≡ Some r → inside ≡ r.text ++ 62 ∷ r.rest
-    close inside None is h = none-some h
-    close inside (Some rest) is h =
-        sym (front-skip is_inside inside) ∙ ap (λ t. front_of is_inside inside ++ t) (one-word 62 (skip is_inside inside) rest is)
-        ∙ ap (λ (s : Reading). s.text ++ 62 ∷ s.rest) (same_Some (record { text = front_of is_inside inside; rest = rest }) r h)
-
-    go : (o : Option (List ℕ)) → after_word (codes "<") text ≡ o
-        → (elim o as (λ _. Option Reading) [ Some inside ↦ ended (front_of is_inside inside) (after_word (codes ">") (skip is_inside inside)) | None ↦ None ]) ≡ Some r → text ≡ 60 ∷ (r.text ++ 62 ∷ r.rest)
-    go None is h = none-some h
-    go (Some inside) is h = one-word 60 text inside is ∙ ap (λ t. 60 ∷ t) (close inside (after_word (codes ">") (skip is_inside inside)) refl h)
+angled text r e = search (rules, none-some, front-skip, one-word, same_Some)
 
 as-read : (r : Reading) (link : Autolink) → as_autolink r ≡ Some link → r.text ++ 62 ∷ r.rest ≡ link.text ++ 62 ∷ link.rest
 unfolding as_autolink
-as-read r link e = go (is_absolute r.text) (is_address r.text) e
-  where
-    go : (v w : Bool) → cond v (Some (record { destination = r.text; text = r.text; rest = r.rest })) (cond w (Some (record { destination = codes "mailto:" ++ r.text; text = r.text; rest = r.rest })) None) ≡ Some link
-        → r.text ++ 62 ∷ r.rest ≡ link.text ++ 62 ∷ link.rest
-    go true w h = ap (λ (l : Autolink). l.text ++ 62 ∷ l.rest) (same_Some (record { destination = r.text; text = r.text; rest = r.rest }) link h)
-    go false true h = ap (λ (l : Autolink). l.text ++ 62 ∷ l.rest) (same_Some (record { destination = codes "mailto:" ++ r.text; text = r.text; rest = r.rest }) link h)
-    go false false h = none-some h
+as-read r link e = search rules
 
 linked : (text : List ℕ) (link : Autolink) → Some link ≡ autolink text → text ≡ 60 ∷ (link.text ++ 62 ∷ link.rest)
 unfolding autolink
@@ -135,15 +96,7 @@ linked text link e = go (in_angles text) refl (sym e)
 -- what is followed is one
 is-linked : (rules : Rules) (text : List ℕ) (link : Autolink) → Some link ≡ followed_autolink rules text → Some link ≡ autolink text
 unfolding followed_autolink
-is-linked rules text link e = go (autolink text) (sym e)
-  where
-    go : (o : Option Autolink) → link_if_followed rules o ≡ Some link → Some link ≡ o
-    go None h = none-some h
-    go (Some found) h = by (is_followed rules found.destination) h
-      where
-        by : (t : Bool) → elim t as (λ _. Option Autolink) [ true ↦ Some found | false ↦ None ] ≡ Some link → Some link ≡ Some found
-        by true h = sym h
-        by false h = none-some h
+is-linked rules text link e = grind (arith, nat_tests, none-some)
 
 -- an autolink has two bytes or more
 pub link-further : (rules : Rules) (source : List ℕ) (at end : ℕ) (link : Autolink) → at < length source → end ≤ length source → Some link ≡ followed_autolink rules (drop at source) → link.rest ≡ drop end source → end ≡ at + 1 + length link.text + 1
@@ -153,7 +106,16 @@ link-further rules source at end link within high e left =
 
 pub link-placed : (rules : Rules) (source : List ℕ) (at end : ℕ) (link : Autolink) → IsUtf8 source → at < length source → end ≤ length source → Some link ≡ followed_autolink rules (drop at source) → link.rest ≡ drop end source
     → (slice_range source (at + 1) (end - 1) ≡ link.text) × IsBetween source (at + 1) (end - 1)
-link-placed rules source at end link utf8 within high e left = (is, (omega (arith, place), IsCharBoundary-after_ascii source at utf8 within (omega (arith, low)), last))
+link-placed rules source at end link utf8 within high e left =
+    let behind-it = ap (drop 1) (sym first ∙ whole) in
+    let place = link-further rules source at end link within high e left in
+    let size : end - 1 - (at + 1) ≡ length link.text = omega (arith, place) in
+    let is = ap (λ n. take n (drop (at + 1) source)) size ∙ ap (take (length link.text)) behind-it ∙ take-append_seam link.text (62 ∷ link.rest) in
+    let tick : begins_with 62 (drop (end - 1) source) ≡ true =
+        let same : end - 1 ≡ at + 1 + length link.text = omega (arith, place) in
+        ap (λ n. begins_with 62 (drop n source)) same ∙ ap (begins_with 62) (sym (drop-drop (length link.text) (at + 1) source) ∙ ap (drop (length link.text)) behind-it ∙ drop-append_seam link.text (62 ∷ link.rest)) in
+    let last : IsCharBoundary source (end - 1) = let found = begins-at 62 source (end - 1) tick in IsCharBoundary-before_ascii source (end - 1) found.0 (omega (arith, found.2)) in
+    (is, (omega (arith, place), IsCharBoundary-after_ascii source at utf8 within (omega (arith, low)), last))
   where
     whole : drop at source ≡ 60 ∷ (link.text ++ 62 ∷ link.rest)
     whole = linked (drop at source) link (is-linked rules (drop at source) link e)
@@ -168,26 +130,6 @@ link-placed rules source at end link utf8 within high e left = (is, (omega (arit
         head [] = 0
         head (b ∷ bs) = b
 
-    behind-it : drop (at + 1) source ≡ link.text ++ 62 ∷ link.rest
-    behind-it = ap (drop 1) (sym first ∙ whole)
-
-    place : end ≡ at + 1 + length link.text + 1
-    place = link-further rules source at end link within high e left
-
-    size : end - 1 - (at + 1) ≡ length link.text
-    size = omega (arith, place)
-
-    is : slice_range source (at + 1) (end - 1) ≡ link.text
-    is = ap (λ n. take n (drop (at + 1) source)) size ∙ ap (take (length link.text)) behind-it ∙ take-append_seam link.text (62 ∷ link.rest)
-
-    tick : begins_with 62 (drop (end - 1) source) ≡ true
-    tick =
-        let same : end - 1 ≡ at + 1 + length link.text = omega (arith, place) in
-        ap (λ n. begins_with 62 (drop n source)) same ∙ ap (begins_with 62) (sym (drop-drop (length link.text) (at + 1) source) ∙ ap (drop (length link.text)) behind-it ∙ drop-append_seam link.text (62 ∷ link.rest))
-
-    last : IsCharBoundary source (end - 1)
-    last = let found = begins-at 62 source (end - 1) tick in IsCharBoundary-before_ascii source (end - 1) found.0 (omega (arith, found.2))
-
 -- the whole of what was read
 pub whole-placed : (source : List ℕ) (at end : ℕ) → at ≤ end → end ≤ length source → before (drop end source) (drop at source) ≡ slice_range source at end
 unfolding before
@@ -196,15 +138,4 @@ whole-placed source at end low high =
     ap (λ n. take n (drop at source)) size
 
 pub whole-text : (text html rest : List ℕ) (o : Option (List ℕ)) → Some (record { text = html; rest = rest }) ≡ whole_of text o → html ≡ before rest text
-whole-text text html rest None e = none-some (sym e)
-whole-text text html rest (Some left) e =
-    let same : rest ≡ left = ap rest_of e in
-    ap text_of e ∙ ap (λ t. before t text) (sym same)
-  where
-    rest_of : Option Reading → List ℕ
-    rest_of None = []
-    rest_of (Some r) = r.rest
-
-    text_of : Option Reading → List ℕ
-    text_of None = []
-    text_of (Some r) = r.text
+whole-text text html rest o e = grind (arith, nat_tests, none-some)

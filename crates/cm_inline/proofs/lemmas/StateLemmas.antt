@@ -1,44 +1,27 @@
 -- What a pass keeps with no segments at hand: numbers fall, looks are paid for, and only the runs of entries are written to.
-use Rattle.std.proofs.Common.{◌≡◌, ◌⊎◌, inl, inr, ℕ, ◌+◌, ◌-◌, ◌<◌, ◌≤◌, Bool, true, false, cond, nat_le, ◌==◌, List, [], ◌∷◌, ◌++◌, length, take, get_or, set, Some, None, refl, sym, ap, subst, ◌∙◌, arith, append-nil, append_assoc, length-append}
-use Rattle.std.proofs.lemmas.List.{map-set, get_or-map, get_or-set_same, get_or-set_other, get_or_push, get_or_append_left, length-set, length-map, length-take}
-use Rattle.std.proofs.lemmas.List.Sums.{sum_by-cons}
-use Rattle.std.proofs.lemmas.Bool.{cond-true, cond-false, leb-true, leb-false, eq-eqb, ne_eqb}
-use Rattle.cm_scan.specs.inlines.Delimiters.{Run}
-use Rattle.cm_scan.specs.inlines.Pairing.{used}
+use Rattle.cm_inline.proofs.lemmas.Words.{◌≡◌, ℕ, ◌+◌, ◌-◌, ◌<◌, ◌≤◌, true, false, cond, nat_le, List, [], ◌∷◌, ◌++◌, length, take, get_or, set, Some, None, refl, sym}
+use Rattle.cm_inline.proofs.lemmas.Words.{ap, subst, ◌∙◌, arith, append-nil, append_assoc, length-append, map-set, get_or-map, get_or-set_same, get_or-set_other}
+use Rattle.cm_inline.proofs.lemmas.Words.{get_or_push, get_or_append_left, length-set, length-map, length-take, sum_by-cons, Run, used, HeldRun, HeldPair, Runs, rules}
 use Rattle.cm_inline.specs.Closers.{all_kinds}
-use Rattle.cm_inline.specs.declared.runs.Run.{Run as HeldRun}
-use Rattle.cm_inline.specs.declared.runs.Pair.{Pair as HeldPair}
-use Rattle.cm_inline.specs.declared.runs.Runs.{Runs}
 use Rattle.cm_inline.specs.steps.pairing.ClosingRuns.{State}
 use Rattle.cm_inline.specs.steps.pairing.Events.{Tag}
 use Rattle.cm_inline.specs.steps.pairing.Parts.{Pair, PairedRun, no_run as no_paired_run, with_pair}
 use Rattle.cm_inline.specs.steps.pairing.Stacks.{taken, rest_of}
-use Rattle.cm_inline.specs.steps.pairing.States.{no_run, run_at, SameRuns, no_pair, AreChained, state_of, IsReady, EntriesFrom, Grows, RunSteps, with_left}
+use Rattle.cm_inline.specs.steps.pairing.States.{run_at, SameRuns, AreChained, state_of, IsReady, EntriesFrom, Grows, RunSteps, with_left, no_run}
 use Rattle.cm_inline.specs.steps.Entries.{Entry, Listed, Below, reserve}
-use Rattle.cm_inline.specs.steps.Openers.{Stack, spent, left_of, leaving}
+use Rattle.cm_inline.specs.steps.Openers.{Stack, spent, leaving}
 use Rattle.cm_inline.specs.steps.Runs.{paired_run, runs_in, pairs_in, pair_in}
 use Rattle.cm_inline.specs.steps.Searching.{kind, find_opener, looks_for}
 use Rattle.cm_inline.proofs.lemmas.BottomLemmas.{kind-small}
 use Rattle.cm_inline.proofs.lemmas.NumberLemmas.{nat-split as nat_split}
 use Rattle.cm_inline.proofs.lemmas.ReserveLemmas.{reserve-push}
-use Rattle.cm_inline.proofs.lemmas.SearchLemmas.{FoundBy, find-found}
-use Rattle.cm_inline.proofs.lemmas.WaitLemmas.{with_looks, after_pair, ready-fails, paid-fails, ready-pairs, paid-pairs}
+use Rattle.cm_inline.proofs.lemmas.SearchLemmas.{FoundBy, find-found, below-more}
+use Rattle.cm_inline.proofs.lemmas.WaitLemmas.{after_pair, ready-fails, paid-fails, ready-pairs, paid-pairs}
 
 -- what the code leaves of an entry
 
 pub leaving-rest : (n : ℕ) (e : Entry) (below : List Entry) → leaving (e.run.left - n) (e ∷ below) ≡ rest_of n e ++ below
-leaving-rest n e below = ap (λ l. l ++ below) (go (nat_le e.run.left n) refl)
-  where
-    cut : Entry
-    cut = record e { run = taken n e.run }
-
-    go : (b : Bool) → nat_le e.run.left n ≡ b → left_of (e.run.left - n) e ≡ rest_of n e
-    go true h =
-        let few : e.run.left ≤ n = leb-true e.run.left n h in
-        cond-true (e.run.left - n == 0) [] (cut ∷ []) (eq-eqb (e.run.left - n) 0 (omega (arith, few))) ∙ sym (cond-true (nat_le e.run.left n) [] (cut ∷ []) h)
-    go false h =
-        let more : n < e.run.left = leb-false e.run.left n h in
-        cond-false (e.run.left - n == 0) [] (cut ∷ []) (ne_eqb (e.run.left - n) 0 (λ q. absurd (omega (arith, more, q)))) ∙ sym (cond-false (nat_le e.run.left n) [] (cut ∷ []) h)
+leaving-rest n e below = search rules
 
 -- a write to a run
 
@@ -52,98 +35,22 @@ left-in number left opened runs h =
     ∙ ap (λ p. set (runs_in runs) number (cut_run left opened p)) (sym (get_or-map paired_run runs number no_run no_paired_run h))
 
 pub same-write : (old runs new : List HeldRun) (number : ℕ) (x : HeldRun) → number < length runs → SameRuns old runs → new ≡ set runs number x → x.run.marker ≡ (run_at runs number).run.marker → x.run.whole ≡ (run_at runs number).run.whole → SameRuns old new
-same-write old runs new number x within s e m w = record { long = ap length e ∙ length-set runs number x ∙ s.long; same = same }
-  where
-    at : (n : ℕ) → ((run_at (set runs number x) n).run.marker ≡ (run_at runs n).run.marker) × ((run_at (set runs number x) n).run.whole ≡ (run_at runs n).run.whole)
-    at n = go (nat_split n number)
-      where
-        go : (n ≡ number) ⊎ (n ≡ number → ⊥) → ((run_at (set runs number x) n).run.marker ≡ (run_at runs n).run.marker) × ((run_at (set runs number x) n).run.whole ≡ (run_at runs n).run.whole)
-        go (inr q) = let is = get_or-set_other runs number n x no_run q in (ap (λ (r : HeldRun). r.run.marker) is, ap (λ (r : HeldRun). r.run.whole) is)
-        go (inl q) =
-            let is = ap (λ k. get_or (set runs number x) k no_run) q ∙ get_or-set_same runs number x no_run within in
-            (ap (λ (r : HeldRun). r.run.marker) is ∙ m ∙ ap (λ k. (run_at runs k).run.marker) (sym q), ap (λ (r : HeldRun). r.run.whole) is ∙ w ∙ ap (λ k. (run_at runs k).run.whole) (sym q))
-
-    same : (n : ℕ) → ((run_at new n).run.marker ≡ (run_at old n).run.marker) × ((run_at new n).run.whole ≡ (run_at old n).run.whole)
-    same n = (ap (λ rs. (run_at rs n).run.marker) e ∙ (at n).0 ∙ (s.same n).0, ap (λ rs. (run_at rs n).run.whole) e ∙ (at n).1 ∙ (s.same n).1)
-
-pub grows-none : (low high : ℕ) (s : State) → Grows low high s s
-grows-none low high s = record { long = refl; others = λ k h. refl; added = []; pairs = sym (append-nil s.pairs) }
+same-write old runs new number x within s e m w = search rules
 
 pub grows-write : (low high number : ℕ) (x : PairedRun) (more : List Pair) (old s t : State) → low ≤ number → number < high → Grows low high old s → t.runs ≡ set s.runs number x → t.pairs ≡ s.pairs ++ more → Grows low high old t
-grows-write low high number x more old s t l h g e p = record {
-  long = ap length e ∙ length-set s.runs number x ∙ g.long;
-  others = λ k o. ap (λ rs. get_or rs k no_paired_run) e ∙ get_or-set_other s.runs number k x no_paired_run (other k o) ∙ g.others k o;
-  added = g.added ++ more;
-  pairs = p ∙ ap (λ ps. ps ++ more) g.pairs ∙ append_assoc old.pairs g.added more;
-}
-  where
-    other : (k : ℕ) → (k < low) ⊎ (high ≤ k) → k ≡ number → ⊥
-    other k (inl o) q = absurd (omega (arith, o, q, l))
-    other k (inr o) q = absurd (omega (arith, o, q, h))
+grows-write low high number x more old s t l h g e p = search (rules, length-set, get_or-set_other, append_assoc)
 
 pub grows-rest : (low high : ℕ) (old s t : State) → Grows low high old s → t.runs ≡ s.runs → t.pairs ≡ s.pairs → Grows low high old t
-grows-rest low high old s t g e p = record {
-  long = ap length e ∙ g.long;
-  others = λ k o. ap (λ rs. get_or rs k no_paired_run) e ∙ g.others k o;
-  added = g.added;
-  pairs = p ∙ g.pairs;
-}
+grows-rest low high old s t g e p = search rules
 
 -- a pair's opener was in pairs before it
 
 pub chained-write : (runs now : List PairedRun) (pairs more : List Pair) (number : ℕ) (x : PairedRun) (p : Pair) → number < length runs → AreChained runs pairs → now ≡ set runs number x → more ≡ pairs ++ p ∷ [] → p.before ≤ length pairs → x.opened ≤ length more → x.from ≤ x.to → x.to ≤ length more
     → AreChained now more
-chained-write runs now pairs more number x p within c e m b o f t = record { before = before; opened = opened; closed = closed }
-  where
-    long : length more ≡ length pairs + 1
-    long = ap length m ∙ length-append pairs (p ∷ [])
-
-    before : (place : ℕ) → place < length more → (get_or more place no_pair).before ≤ place
-    before place h = go (nat_split place (length pairs))
-      where
-        go : (place ≡ length pairs) ⊎ (place ≡ length pairs → ⊥) → (get_or more place no_pair).before ≤ place
-        go (inl q) =
-            let is = ap (λ ps. get_or ps place no_pair) m ∙ get_or_push pairs p no_pair place (sym q) in
-            omega (arith, ap (λ (r : Pair). r.before) is, b, q)
-        go (inr q) =
-            let low : place < length pairs = omega (arith, h, long, q) in
-            let is = ap (λ ps. get_or ps place no_pair) m ∙ get_or_append_left pairs (p ∷ []) no_pair place low in
-            omega (arith, ap (λ (r : Pair). r.before) is, c.before place low)
-
-    at : (n : ℕ) → (get_or now n no_paired_run ≡ x) ⊎ (get_or now n no_paired_run ≡ get_or runs n no_paired_run)
-    at n = go (nat_split n number)
-      where
-        go : (n ≡ number) ⊎ (n ≡ number → ⊥) → (get_or now n no_paired_run ≡ x) ⊎ (get_or now n no_paired_run ≡ get_or runs n no_paired_run)
-        go (inl q) = inl (ap (λ rs. get_or rs n no_paired_run) e ∙ ap (λ k. get_or (set runs number x) k no_paired_run) q ∙ get_or-set_same runs number x no_paired_run within)
-        go (inr q) = inr (ap (λ rs. get_or rs n no_paired_run) e ∙ get_or-set_other runs number n x no_paired_run q)
-
-    opened : (n : ℕ) → (get_or now n no_paired_run).opened ≤ length more
-    opened n = go (at n)
-      where
-        go : (get_or now n no_paired_run ≡ x) ⊎ (get_or now n no_paired_run ≡ get_or runs n no_paired_run) → (get_or now n no_paired_run).opened ≤ length more
-        go (inl q) = omega (arith, ap (λ (r : PairedRun). r.opened) q, o)
-        go (inr q) = omega (arith, ap (λ (r : PairedRun). r.opened) q, c.opened n, long)
-
-    closed : (n : ℕ) → ((get_or now n no_paired_run).from ≤ (get_or now n no_paired_run).to) × ((get_or now n no_paired_run).to ≤ length more)
-    closed n = go (at n)
-      where
-        go : (get_or now n no_paired_run ≡ x) ⊎ (get_or now n no_paired_run ≡ get_or runs n no_paired_run) → ((get_or now n no_paired_run).from ≤ (get_or now n no_paired_run).to) × ((get_or now n no_paired_run).to ≤ length more)
-        go (inl q) = (omega (arith, ap (λ (r : PairedRun). r.from) q, ap (λ (r : PairedRun). r.to) q, f), omega (arith, ap (λ (r : PairedRun). r.to) q, t))
-        go (inr q) = (omega (arith, ap (λ (r : PairedRun). r.from) q, ap (λ (r : PairedRun). r.to) q, (c.closed n).0), omega (arith, ap (λ (r : PairedRun). r.to) q, (c.closed n).1, long))
+chained-write runs now pairs more number x p within c e m b o f t = search (rules, length-append, nat_split, get_or_push, get_or_append_left, get_or-set_same, get_or-set_other)
 
 pub chained-put : (runs now : List PairedRun) (pairs : List Pair) (number : ℕ) (x : PairedRun) → number < length runs → AreChained runs pairs → now ≡ set runs number x → x.opened ≤ length pairs → x.from ≤ x.to → x.to ≤ length pairs → AreChained now pairs
-chained-put runs now pairs number x within c e o f t = record { before = c.before; opened = λ n. (kept n).0; closed = λ n. (kept n).1 }
-  where
-    kept : (n : ℕ) → ((get_or now n no_paired_run).opened ≤ length pairs) × (((get_or now n no_paired_run).from ≤ (get_or now n no_paired_run).to) × ((get_or now n no_paired_run).to ≤ length pairs))
-    kept n = go (nat_split n number)
-      where
-        go : (n ≡ number) ⊎ (n ≡ number → ⊥) → ((get_or now n no_paired_run).opened ≤ length pairs) × (((get_or now n no_paired_run).from ≤ (get_or now n no_paired_run).to) × ((get_or now n no_paired_run).to ≤ length pairs))
-        go (inl q) =
-            let is = ap (λ rs. get_or rs n no_paired_run) e ∙ ap (λ k. get_or (set runs number x) k no_paired_run) q ∙ get_or-set_same runs number x no_paired_run within in
-            (omega (arith, ap (λ (r : PairedRun). r.opened) is, o), (omega (arith, ap (λ (r : PairedRun). r.from) is, ap (λ (r : PairedRun). r.to) is, f), omega (arith, ap (λ (r : PairedRun). r.to) is, t)))
-        go (inr q) =
-            let is = ap (λ rs. get_or rs n no_paired_run) e ∙ get_or-set_other runs number n x no_paired_run q in
-            (omega (arith, ap (λ (r : PairedRun). r.opened) is, c.opened n), (omega (arith, ap (λ (r : PairedRun). r.from) is, ap (λ (r : PairedRun). r.to) is, (c.closed n).0), omega (arith, ap (λ (r : PairedRun). r.to) is, (c.closed n).1)))
+chained-put runs now pairs number x within c e o f t = search rules
 
 -- entries that are left
 
@@ -152,11 +59,7 @@ from-behind low [] ys h = h
 from-behind low (x ∷ xs) ys h = from-behind low xs ys h.1
 
 from-rest : (low n : ℕ) (e : Entry) (es : List Entry) → EntriesFrom low (e ∷ es) → EntriesFrom low (rest_of n e ++ es)
-from-rest low n e es h = go (nat_le e.run.left n)
-  where
-    go : (b : Bool) → EntriesFrom low (cond b [] (record e { run = taken n e.run } ∷ []) ++ es)
-    go true = h.1
-    go false = h
+from-rest low n e es h = elim (nat_le e.run.left n) as (λ b. EntriesFrom low (cond b [] (record e { run = taken n e.run } ∷ []) ++ es)) [ true ↦ h.1 | false ↦ h ]
 
 pub from-zero : (es : List Entry) → EntriesFrom 0 es
 from-zero [] = tt
@@ -191,35 +94,21 @@ same-list l m e k n = λ i. record { entries = e i; looks = k i; next = n i }
 pub same-state : (s t : State) → s.runs ≡ t.runs → s.pairs ≡ t.pairs → s.list ≡ t.list → s.bottoms ≡ t.bottoms → s ≡ t
 same-state s t r p l b = λ i. record { runs = r i; pairs = p i; list = l i; bottoms = b i }
 
--- at first
-pub steps-none : (old : Runs) (had : List ℕ) (number : ℕ) → IsReady (state_of old had number).list had → RunSteps old old had had number number 0
-steps-none old had number ready = record {
-  ready = ready;
-  paid = omega arith;
-  grows = λ low h f. (f, grows-none low (number + 1) (state_of old had number));
-  same = record { long = refl; same = λ n. (refl, refl) };
-  chained = λ c. c;
-  waiting = refl;
-}
-
 -- a search in vain
 pub steps-fails : (old new : Runs) (had bs : List ℕ) (number : ℕ) (c : Run) (openers : Stack) → RunSteps old new had bs number number 0 → find_opener c (get_or bs (kind c) 0) new.openers.entries ≡ None
     → openers.entries ≡ new.openers.entries → openers.looks ≡ new.openers.looks + looks_for c (get_or bs (kind c) 0) new.openers.entries
     → RunSteps old (record new { openers = openers }) had (set bs (kind c) number) number number 0
-steps-fails old new had bs number c openers s none e k = record {
-  ready = subst (λ l. IsReady l (set bs (kind c) number)) (sym is) (ready-fails c l bs (looks_for c (get_or bs (kind c) 0) l.entries) s.ready);
-  paid = omega (arith, s.paid, paid-fails c l bs s.ready none all_kinds (kind-small c), ap (λ l. spent all_kinds l (set bs (kind c) number)) is);
-  grows = λ low h f. (let g = s.grows low h f in (subst (EntriesFrom low) (sym e) g.0, grows-rest low (number + 1) _ _ _ g.1 refl refl));
-  same = s.same;
-  chained = s.chained;
-  waiting = s.waiting;
-}
-  where
-    l : Listed
-    l = (state_of new bs number).list
-
-    is : (state_of (record new { openers = openers }) (set bs (kind c) number) number).list ≡ with_looks l (looks_for c (get_or bs (kind c) 0) l.entries)
-    is = same-list _ _ e k refl
+steps-fails old new had bs number c openers s none e k =
+    let l : Listed = (state_of new bs number).list in
+    let is = same-list _ _ e k refl in
+    record {
+      ready = subst (λ l. IsReady l (set bs (kind c) number)) (sym is) (ready-fails c l bs (looks_for c (get_or bs (kind c) 0) l.entries) s.ready);
+      paid = omega (arith, s.paid, paid-fails c l bs s.ready none all_kinds (kind-small c), ap (λ l. spent all_kinds l (set bs (kind c) number)) is);
+      grows = λ low h f. (let g = s.grows low h f in (subst (EntriesFrom low) (sym e) g.0, grows-rest low (number + 1) _ _ _ g.1 refl refl));
+      same = s.same;
+      chained = s.chained;
+      waiting = s.waiting;
+    }
 
 -- What the code writes for the pair of a closer with the entry that was found.
 pub record MakesPair (c : Run) (e : Entry) (below : List Entry) (looks : ℕ) (tag : Tag) (old new : Runs) : Type 0 where
@@ -232,83 +121,57 @@ pub record MakesPair (c : Run) (e : Entry) (below : List Entry) (looks : ℕ) (t
 
 pub steps-pairs : (old new now : Runs) (had bs : List ℕ) (number : ℕ) (c : Run) (e : Entry) (tag : Tag) → RunSteps old new had bs number number 0 → (g : FoundBy c (get_or bs (kind c) 0) new.openers.entries e)
     → MakesPair c e g.below (looks_for c (get_or bs (kind c) 0) new.openers.entries) tag new now → RunSteps old now had bs number number 0
-steps-pairs old new now had bs number c e tag s g m = record {
-  ready = subst (λ l. IsReady l bs) (sym is) (ready-pairs c e l bs looks s.ready g);
-  paid = omega (arith, s.paid, paid-pairs c e l bs s.ready g all_kinds, ap (λ l. spent all_kinds l bs) is);
-  grows = λ low h f. (
-      let r = s.grows low h f in
-      let here : EntriesFrom low (e ∷ g.below) = from-behind low g.passed (e ∷ g.below) (subst (EntriesFrom low) g.whole r.0) in (
-        subst (EntriesFrom low) (sym entries) (from-rest low (used e.run c) e g.below here),
-        grows-write low (number + 1) e.place x (p ∷ []) (state_of old had number) (state_of new bs number) (state_of now bs number) here.0 (omega (arith, place)) r.1 runs m.pairs,
-      )
-      );
-  same = same-write old.runs.items new.runs.items now.runs.items e.place _ m.within s.same m.runs refl refl;
-  chained = λ c0. (
-      let c1 = s.chained c0 in
-      chained-write (runs_in new.runs.items) (runs_in now.runs.items) (pairs_in new.pairs.items) (pairs_in now.pairs.items) e.place x p (omega (arith, m.within, length-map new.runs.items paired_run)) c1 runs m.pairs (c1.opened e.place)
-      (omega (arith, long, length-map new.pairs.items pair_in)) (c1.closed e.place).0 (omega (arith, long, (c1.closed e.place).1))
-      );
-  waiting = m.waiting ∙ s.waiting;
-}
-  where
-    l : Listed
-    l = (state_of new bs number).list
-
-    looks : ℕ
-    looks = looks_for c (get_or bs (kind c) 0) new.openers.entries
-
-    p : Pair
-    p = record { tag = tag; before = (get_or (runs_in new.runs.items) e.place no_paired_run).opened }
-
-    x : PairedRun
-    x = cut_run (e.run.left - used e.run c) (length new.pairs.items + 1) (get_or (runs_in new.runs.items) e.place no_paired_run)
-
-    place : e.place < number
-    place = below-found number g.passed e g.below (subst (Below number) g.whole s.ready.under)
-
-    entries : now.openers.entries ≡ rest_of (used e.run c) e ++ g.below
-    entries = m.entries ∙ leaving-rest (used e.run c) e g.below
-
-    is : (state_of now bs number).list ≡ after_pair c e looks g.below l
-    is = same-list _ _ entries m.looks_are refl
-
-    runs : runs_in now.runs.items ≡ set (runs_in new.runs.items) e.place x
-    runs = ap runs_in m.runs ∙ left-in e.place (e.run.left - used e.run c) (length new.pairs.items + 1) new.runs.items m.within
-
-    long : length (pairs_in now.pairs.items) ≡ length (pairs_in new.pairs.items) + 1
-    long = ap length m.pairs ∙ length-append (pairs_in new.pairs.items) (p ∷ [])
+steps-pairs old new now had bs number c e tag s g m =
+    let l = (state_of new bs number).list in
+    let looks = looks_for c (get_or bs (kind c) 0) new.openers.entries in
+    let p : Pair = record { tag = tag; before = (get_or (runs_in new.runs.items) e.place no_paired_run).opened } in
+    let x = cut_run (e.run.left - used e.run c) (length new.pairs.items + 1) (get_or (runs_in new.runs.items) e.place no_paired_run) in
+    let place = below-found number g.passed e g.below (subst (Below number) g.whole s.ready.under) in
+    let entries = m.entries ∙ leaving-rest (used e.run c) e g.below in
+    let is : (state_of now bs number).list ≡ after_pair c e looks g.below l = same-list _ _ entries m.looks_are refl in
+    let runs = ap runs_in m.runs ∙ left-in e.place (e.run.left - used e.run c) (length new.pairs.items + 1) new.runs.items m.within in
+    let long = ap length m.pairs ∙ length-append (pairs_in new.pairs.items) (p ∷ []) in
+    record {
+      ready = subst (λ l. IsReady l bs) (sym is) (ready-pairs c e l bs looks s.ready g);
+      paid = omega (arith, s.paid, paid-pairs c e l bs s.ready g all_kinds, ap (λ l. spent all_kinds l bs) is);
+      grows = λ low h f. (
+          let r = s.grows low h f in
+          let here : EntriesFrom low (e ∷ g.below) = from-behind low g.passed (e ∷ g.below) (subst (EntriesFrom low) g.whole r.0) in (
+            subst (EntriesFrom low) (sym entries) (from-rest low (used e.run c) e g.below here),
+            grows-write low (number + 1) e.place x (p ∷ []) (state_of old had number) (state_of new bs number) (state_of now bs number) here.0 (omega (arith, place)) r.1 runs m.pairs,
+          )
+          );
+      same = same-write old.runs.items new.runs.items now.runs.items e.place _ m.within s.same m.runs refl refl;
+      chained = λ c0. (
+          let c1 = s.chained c0 in
+          chained-write (runs_in new.runs.items) (runs_in now.runs.items) (pairs_in new.pairs.items) (pairs_in now.pairs.items) e.place x p (omega (arith, m.within, length-map new.runs.items paired_run)) c1 runs m.pairs (c1.opened e.place)
+          (omega (arith, long, length-map new.pairs.items pair_in)) (c1.closed e.place).0 (omega (arith, long, (c1.closed e.place).1))
+          );
+      waiting = m.waiting ∙ s.waiting;
+    }
 
 -- the closer's own run is written
 pub steps-put : (old new now : Runs) (had bs : List ℕ) (number : ℕ) (x : HeldRun) → RunSteps old new had bs number number 0 → number < length new.runs.items → now.runs.items ≡ set new.runs.items number x → now.pairs ≡ new.pairs → now.openers ≡ new.openers → now.waiting ≡ new.waiting
     → x.run.marker ≡ (run_at new.runs.items number).run.marker → x.run.whole ≡ (run_at new.runs.items number).run.whole → x.opened ≤ length new.pairs.items → x.from ≤ x.to → x.to ≤ length new.pairs.items → RunSteps old now had bs number number 0
-steps-put old new now had bs number x s within r p o w mk wh op order to = record {
-  ready = subst (λ l. IsReady l bs) (sym is) s.ready;
-  paid = omega (arith, s.paid, ap (λ l. spent all_kinds l bs) is);
-  grows = λ low h f. (
-      let g = s.grows low h f in (
-        subst (λ (k : Stack). EntriesFrom low k.entries) (sym o) g.0,
-        grows-write low (number + 1) number (paired_run x) [] (state_of old had number) (state_of new bs number) (state_of now bs number) h (omega arith) g.1 runs (pairs ∙ sym (append-nil (pairs_in new.pairs.items))),
-      )
-      );
-  same = same-write old.runs.items new.runs.items now.runs.items number x within s.same r mk wh;
-  chained = λ c0. subst (AreChained (runs_in now.runs.items)) (sym pairs)
-      (chained-put (runs_in new.runs.items) (runs_in now.runs.items) (pairs_in new.pairs.items) number (paired_run x) (omega (arith, within, length-map new.runs.items paired_run)) (s.chained c0) runs (omega (arith, op, length-map new.pairs.items pair_in)) order
-      (omega (arith, to, length-map new.pairs.items pair_in)));
-  waiting = ap (λ v. v.items) w ∙ s.waiting;
-}
-  where
-    runs : runs_in now.runs.items ≡ set (runs_in new.runs.items) number (paired_run x)
-    runs = ap runs_in r ∙ map-set paired_run new.runs.items number x
-
-    pairs : pairs_in now.pairs.items ≡ pairs_in new.pairs.items
-    pairs = ap (λ v. pairs_in v.items) p
-
-    is : (state_of now bs number).list ≡ (state_of new bs number).list
-    is = same-list _ _ (ap (λ (k : Stack). k.entries) o) (ap (λ (k : Stack). k.looks) o) refl
-
-below-more : (n m : ℕ) (es : List Entry) → n ≤ m → Below n es → Below m es
-below-more n m [] p h = tt
-below-more n m (e ∷ es) p h = let q : e.place < n = h.0 in (omega arith, below-more n m es p h.1)
+steps-put old new now had bs number x s within r p o w mk wh op order to =
+    let runs = ap runs_in r ∙ map-set paired_run new.runs.items number x in
+    let pairs = ap (λ v. pairs_in v.items) p in
+    let is = same-list _ _ (ap (λ (k : Stack). k.entries) o) (ap (λ (k : Stack). k.looks) o) refl in
+    record {
+      ready = subst (λ l. IsReady l bs) (sym is) s.ready;
+      paid = omega (arith, s.paid, ap (λ l. spent all_kinds l bs) is);
+      grows = λ low h f. (
+          let g = s.grows low h f in (
+            subst (λ (k : Stack). EntriesFrom low k.entries) (sym o) g.0,
+            grows-write low (number + 1) number (paired_run x) [] (state_of old had number) (state_of new bs number) (state_of now bs number) h (omega arith) g.1 runs (pairs ∙ sym (append-nil (pairs_in new.pairs.items))),
+          )
+          );
+      same = same-write old.runs.items new.runs.items now.runs.items number x within s.same r mk wh;
+      chained = λ c0. subst (AreChained (runs_in now.runs.items)) (sym pairs)
+          (chained-put (runs_in new.runs.items) (runs_in now.runs.items) (pairs_in new.pairs.items) number (paired_run x) (omega (arith, within, length-map new.runs.items paired_run)) (s.chained c0) runs (omega (arith, op, length-map new.pairs.items pair_in)) order
+          (omega (arith, to, length-map new.pairs.items pair_in)));
+      waiting = ap (λ v. v.items) w ∙ s.waiting;
+    }
 
 pub ready-raised : (entries : List Entry) (looks n m : ℕ) (bs : List ℕ) → n ≤ m → IsReady (record { entries = entries; looks = looks; next = n }) bs → IsReady (record { entries = entries; looks = looks; next = m }) bs
 ready-raised entries looks n m bs h r = record { falling = r.falling; under = below-more n m entries h r.under; size = r.size; low = λ k. (let q : get_or bs k 0 ≤ n = r.low k in omega (arith, q, h)) }
@@ -326,19 +189,18 @@ steps-on old new had bs number due s = record {
 
 pub steps-push : (old new : Runs) (had bs : List ℕ) (number due : ℕ) (e : Entry) (openers : Stack) → RunSteps old new had bs number number 0 → openers.entries ≡ e ∷ new.openers.entries → openers.looks ≡ new.openers.looks → e.place ≡ number → all_kinds + 1 + e.run.left ≤ due
     → RunSteps old (record new { openers = openers }) had bs number (number + 1) due
-steps-push old new had bs number due e openers s es k at pays = record {
-  ready = subst (λ l. IsReady l bs) (sym is) (record {
-    falling = (subst (λ n. Below n new.openers.entries) (sym at) s.ready.under, s.ready.falling);
-    under = (omega (arith, at), below-more number (number + 1) new.openers.entries (omega arith) s.ready.under);
-    size = s.ready.size;
-    low = λ k. (let q : get_or bs k 0 ≤ number = s.ready.low k in omega (arith, q));
-  });
-  paid = omega (arith, s.paid, pays, ap (λ l. spent all_kinds l bs) is, sum_by-cons (λ (x : Entry). x.run.left) e new.openers.entries, reserve-push (take all_kinds bs) new.openers.entries e, length-take all_kinds bs);
-  grows = λ low h f. (let g = s.grows low h f in (subst (EntriesFrom low) (sym es) (omega (arith, at, h), g.0), grows-rest low (number + 1) _ _ _ g.1 refl refl));
-  same = s.same;
-  chained = s.chained;
-  waiting = s.waiting;
-}
-  where
-    is : (state_of (record new { openers = openers }) bs (number + 1)).list ≡ record { entries = e ∷ new.openers.entries; looks = new.openers.looks; next = number + 1 }
-    is = same-list _ _ es k refl
+steps-push old new had bs number due e openers s es k at pays =
+    let is = same-list _ _ es k refl in
+    record {
+      ready = subst (λ l. IsReady l bs) (sym is) (record {
+        falling = (subst (λ n. Below n new.openers.entries) (sym at) s.ready.under, s.ready.falling);
+        under = (omega (arith, at), below-more number (number + 1) new.openers.entries (omega arith) s.ready.under);
+        size = s.ready.size;
+        low = λ k. (let q : get_or bs k 0 ≤ number = s.ready.low k in omega (arith, q));
+      });
+      paid = omega (arith, s.paid, pays, ap (λ l. spent all_kinds l bs) is, sum_by-cons (λ (x : Entry). x.run.left) e new.openers.entries, reserve-push (take all_kinds bs) new.openers.entries e, length-take all_kinds bs);
+      grows = λ low h f. (let g = s.grows low h f in (subst (EntriesFrom low) (sym es) (omega (arith, at, h), g.0), grows-rest low (number + 1) _ _ _ g.1 refl refl));
+      same = s.same;
+      chained = s.chained;
+      waiting = s.waiting;
+    }

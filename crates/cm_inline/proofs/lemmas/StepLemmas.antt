@@ -1,7 +1,6 @@
 -- One step of the search.
-use Rattle.std.proofs.Common.{◌≡◌, ℕ, suc, true, false, cond, nat_lt, List, ◌∷◌, Some, None, ap, ◌∙◌}
-use Rattle.std.proofs.lemmas.Bool.{cond-true, cond-false}
-use Rattle.cm_scan.specs.inlines.Delimiters.{Run}
+use Rattle.cm_inline.proofs.lemmas.Words.{◌≡◌, ℕ, suc, true, false, List, ◌∷◌, Some, None, cond-true, Run, cond, ap, ◌∙◌, cond-false}
+use Rattle.std.proofs.Common.{nat_lt}
 use Rattle.cm_inline.specs.steps.Entries.{Entry, answers}
 use Rattle.cm_inline.specs.steps.Searching.{find_opener, looks_for}
 

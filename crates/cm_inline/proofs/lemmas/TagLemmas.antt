@@ -1,17 +1,15 @@
 -- The ends and the starts of pairs at a run, one after another.
-use Rattle.std.proofs.Common.{◌≡◌, ℕ, zero, suc, ◌+◌, ◌-◌, ◌<◌, ◌≤◌, ◌==◌, List, [], ◌∷◌, ◌++◌, length, take, drop, get_or, reverse, refl, sym, ap, subst, ◌∙◌, arith, append_assoc}
-use Rattle.std.proofs.lemmas.Bool.{cond-true, cond-false, eq-eqb, ne_eqb}
-use Rattle.std.proofs.lemmas.List.{drop_more, drop_all, length-take, length-take-le, length-reverse, get_or-take, reverse-append, take-append-drop}
+use Rattle.cm_inline.proofs.lemmas.Words.{◌≡◌, ℕ, zero, suc, ◌+◌, ◌-◌, ◌<◌, ◌≤◌, ◌==◌, List, [], ◌∷◌, ◌++◌, length, take, drop, get_or, reverse, refl, sym, ap, subst}
+use Rattle.cm_inline.proofs.lemmas.Words.{◌∙◌, arith, append_assoc, cond-false, ne_eqb, drop_more, drop_all, length-take, length-take-le, length-reverse, get_or-take}
+use Rattle.cm_inline.proofs.lemmas.Words.{reverse-append, take-append-drop, get_or-map, Emphasis, nat_tests}
 use Rattle.cm_inline.specs.declared.runs.Pair as made
 use Rattle.cm_inline.specs.steps.pairing.Events.{Event, Start, End}
 use Rattle.cm_inline.specs.steps.pairing.Readings.{Tags, Page, page, mode_of, write_all, start_html, end_html}
-use Rattle.cm_inline.specs.declared.runs.Emphasis.{Emphasis}
-use Rattle.cm_inline.specs.declared.runs.Emphasis.TheVariants.{Emph, Strong, Strike}
 use Rattle.cm_inline.specs.steps.pairing.Parts.{Pair, chain, starts, ends, ends_between}
 use Rattle.cm_inline.specs.steps.pairing.States.{no_pair}
 use Rattle.cm_inline.specs.steps.Runs.{tag_in, pair_in, pairs_in}
 use Rattle.cm_inline.specs.steps.Writing.{ComeBefore}
-use Rattle.cm_inline.proofs.lemmas.LaidLemmas.{get_or-map}
+use Rattle.cm_inline.proofs.lemmas.PartLemmas.{chain-goes}
 
 pub length-pairs : (ps : List made.Pair) → length (pairs_in ps) ≡ length ps
 length-pairs [] = refl
@@ -41,10 +39,6 @@ chain-before (p ∷ ps) qs n h =
     longer [] = omega arith
     longer (p ∷ ps) = omega (arith, longer ps)
 
-chain-first : (p : Pair) (ps : List Pair) (n : ℕ) → n ≡ suc (length ps) → chain (p ∷ ps) n ≡ Start p.tag ∷ chain ps p.before
-unfolding chain
-chain-first p ps n h = cond-true (n == suc (length ps)) (Start p.tag ∷ chain ps p.before) (chain ps n) (eq-eqb n (suc (length ps)) h)
-
 pub starts-none : (pairs : List Pair) → starts pairs 0 ≡ []
 unfolding chain
 starts-none pairs = go (reverse pairs)
@@ -62,7 +56,7 @@ starts-at pairs n h chained =
     let turned : reverse pairs ≡ reverse back ++ (p ∷ reverse front) = ap reverse parts ∙ reverse-append front (p ∷ back) ∙ ap (λ t. t ++ reverse front) (turn p back) ∙ append_assoc (reverse back) (p ∷ []) (reverse front) in
     let long : length (reverse front) ≡ n = length-reverse front ∙ length-take-le n pairs (omega (arith, h)) in
     let one : chain (reverse pairs) (n + 1) ≡ Start p.tag ∷ chain (reverse front) p.before =
-    ap (λ t. chain t (n + 1)) turned ∙ chain-before (reverse back) (p ∷ reverse front) (n + 1) (omega (arith, long)) ∙ chain-first p (reverse front) (n + 1) (omega (arith, long)) in
+    ap (λ t. chain t (n + 1)) turned ∙ chain-before (reverse back) (p ∷ reverse front) (n + 1) (omega (arith, long)) ∙ chain-goes p (reverse front) (n + 1) (omega (arith, long)) in
     let rest : chain (reverse pairs) p.before ≡ chain (reverse front) p.before =
     ap (λ t. chain t p.before) (turned ∙ sym (append_assoc (reverse back) (p ∷ []) (reverse front))) ∙ chain-before (reverse back ++ p ∷ []) (reverse front) p.before (omega (arith, long, chained)) in
     one ∙ ap (λ t. Start p.tag ∷ t) (sym rest)
@@ -98,9 +92,7 @@ unfolding write_all
 end-written html new emphasis events more whole e f h = ap (λ t. write_all (page t Tags) more) e ∙ sym (ap (write_all (page html Tags)) f) ∙ h
 
 mode-tags : (emphasis : Emphasis) → mode_of (tag_in emphasis) ≡ Tags
-mode-tags Emph = refl
-mode-tags Strong = refl
-mode-tags Strike = refl
+mode-tags emphasis = grind (arith, nat_tests)
 
 pub start-written : (html new : List ℕ) (emphasis : Emphasis) (events more : List Event) (whole : Page) → new ≡ html ++ start_html (tag_in emphasis) → events ≡ Start (tag_in emphasis) ∷ more
     → write_all (page html Tags) events ≡ whole → write_all (page new Tags) more ≡ whole

@@ -1,25 +1,18 @@
 -- Where a text ends.
-use Rattle.std.proofs.Common.{◌≡◌, ℕ, zero, suc, ◌+◌, ◌-◌, ◌<◌, ◌≤◌, ◌==◌, ◌&&◌, ◌||◌, not, Bool, true, false, List, [], ◌∷◌, ◌++◌, length, take, drop, get_or, replicate, refl, sym, ap, subst, ◌∙◌, arith, append_assoc, length-append, length-drop, get_or-drop, drop-drop, take_all}
-use Rattle.std.specs.Prelude.{min, nat_lt, cond}
-use Rattle.std.specs.List.{list_all, list_any, slice_range, position_or_len}
-use Rattle.std.specs.Str.{IsCharBoundary}
-use Rattle.std.proofs.lemmas.Bool.{and_parts}
-use Rattle.std.proofs.lemmas.Bool.Decides.{nat_tests}
-use Rattle.std.proofs.lemmas.List.{drop_more, length-take}
-use Rattle.std.proofs.lemmas.Str.{IsCharBoundary-before_ascii}
-use Rattle.cm_text.specs.Search.{next_place, is_marked}
-use Rattle.cm_scan.specs.Words.{begins_with, is_empty, trim_end_spaces}
-use Rattle.cm_scan.specs.spans.Autolinks.{ends_with}
-use Rattle.cm_scan.specs.laws.InlineLaws.{is_plain_byte, keeps_spaces}
+use Rattle.cm_inline.proofs.lemmas.Words.{◌≡◌, ℕ, suc, ◌+◌, ◌-◌, ◌<◌, ◌≤◌, ◌==◌, ◌&&◌, ◌||◌, not, Bool, true, false, List, [], ◌∷◌, ◌++◌, length, take, drop, get_or}
+use Rattle.cm_inline.proofs.lemmas.Words.{refl, sym, ap, subst, ◌∙◌, arith, append_assoc, length-append, length-drop, get_or-drop, drop-drop, nat_lt, list_all}
+use Rattle.cm_inline.proofs.lemmas.Words.{slice_range, IsCharBoundary, and_parts, nat_tests, drop_more, length-take, IsCharBoundary-before_ascii, next_place}
+use Rattle.cm_inline.proofs.lemmas.Words.{is_marked, begins_with, is_empty, ends_with, is_plain_byte, Rules, Text, Defined, inlines_of, rules, replicate}
+use Rattle.std.proofs.Common.{take_all}
+use Rattle.std.specs.Prelude.{cond}
+use Rattle.std.specs.List.{list_any, position_or_len}
+use Rattle.cm_scan.specs.laws.InlineLaws.{keeps_spaces}
 use Rattle.cm_scan.proofs.lemmas.texts.TrimLemmas.{trimmed}
 use Rattle.cm_scan.proofs.lemmas.inlines.ReadingSteps.{unmarked_is_plain, plain_is_itself}
-use Rattle.cm_text.specs.Rules.{Rules}
-use Rattle.cm_tree.specs.declared.tree.Inline.TheVariants.{Text}
-use Rattle.cm_scan.specs.inlines.Brackets.{Defined}
-use Rattle.cm_scan.specs.inlines.Inlines.{inlines_of}
 use Rattle.cm_inline.proofs.lemmas.SliceLemmas.{slice-front}
 use Rattle.cm_inline.specs.steps.Marks.{stays_text}
 use Rattle.cm_inline.specs.steps.Reads.{IsTextTo}
+use Rattle.cm_scan.specs.Words.{trim_end_spaces}
 
 -- the bytes up to the first that is looked for
 record UpTo (text : List ℕ) (count : ℕ) : Type 0 where
@@ -55,23 +48,7 @@ record Reaches (source : List ℕ) (at end : ℕ) : Type 0 where
   marked : end < length source → is_marked (get_or source end 0) ≡ true
 
 reaches : (source : List ℕ) (at end : ℕ) → at ≤ length source → end ≡ next_place is_marked source at → Reaches source at end
-reaches source at end within e =
-    let text = drop at source in
-    let found = up-to text in
-    let count = position_or_len is_marked text in
-    let size : length text ≡ length source - at = length-drop at source in
-    let place : end ≡ at + count = e ∙ least (length source) (at + count) (omega (arith, found.within, size, within)) in
-    let front : end - at ≡ count = omega (arith, place) in
-    record {
-      low = omega (arith, place);
-      within = omega (arith, place, found.within, size, within);
-      plain = ap (λ n. list_all is_plain_byte (take n text)) front ∙ found.plain;
-      stays = ap (λ n. list_all (stays_text true) (take n text)) front ∙ found.stays;
-      marked = λ some. ap is_marked (ap (λ n. get_or source n 0) place ∙ sym (get_or-drop at source count 0)) ∙ found.marked (omega (arith, some, place, size, within));
-    }
-  where
-    least : (a b : ℕ) → b ≤ a → min a b ≡ b
-    least a b low = omega (arith, low)
+reaches source at end within e = search (rules, up-to, length-drop, get_or-drop)
 
 marked-ascii : (b : ℕ) → is_marked b ≡ true → b < 128
 marked-ascii b e = grind (arith, nat_tests, e)
@@ -83,14 +60,7 @@ no-space b e = grind (arith, nat_tests, e)
 pub text-to-markup : (source : List ℕ) (at end : ℕ) → at ≤ length source → end ≡ next_place is_marked source at → (end < length source → (get_or source end 0 == 10) ≡ false) → IsTextTo source at end
 text-to-markup source at end within e other =
     let found = reaches source at end within e in
-    record {
-      low = found.low;
-      boundary = boundary found (nat_lt end (length source)) refl;
-      plain = found.plain;
-      spaces = kept (drop end source) (λ b bs f. next found b bs f);
-      stays = found.stays;
-      ascii = λ some. marked-ascii (get_or source end 0) (found.marked some);
-    }
+    search (rules, (boundary found (nat_lt end (length source)) refl), (kept (drop end source) (λ b bs f. next found b bs f)))
   where
     boundary : Reaches source at end → (some : Bool) → nat_lt end (length source) ≡ some → IsCharBoundary source end
     boundary found true f =
@@ -131,8 +101,7 @@ front-all p (b ∷ bs) rest h =
 
 -- a space or a line feed comes next
 first-ascii : (source : List ℕ) (at count : ℕ) (rest : List ℕ) → at < length source → drop at source ≡ replicate count 32 ++ rest → get_or rest 0 0 ≡ 10 → get_or source at 0 < 128
-first-ascii source at zero rest within e feed = let same : get_or source at 0 ≡ 10 = ap (λ t. get_or t 0 0) (sym (drop_more source at 0 within) ∙ e) ∙ feed in omega (arith, same)
-first-ascii source at (suc count) rest within e feed = let same : get_or source at 0 ≡ 32 = ap (λ t. get_or t 0 0) (sym (drop_more source at 0 within) ∙ e) in omega (arith, same)
+first-ascii source at count rest within e feed = grind (arith, nat_tests, drop_more)
 
 -- the next markup is a line feed: the text is that without the spaces at its end
 pub text-to-spaces : (source : List ℕ) (at end : ℕ) → at ≤ length source → end ≡ next_place is_marked source at → end < length source → get_or source end 0 ≡ 10
@@ -149,20 +118,12 @@ text-to-spaces source at end within e some feed =
     let inside : at + length left < length source = omega (arith, size, whole, found.low, some) in
     let first : get_or source (at + length left) 0 < 128 = first-ascii source (at + length left) parts.count (drop end source) inside rest (ap (λ t. get_or t 0 0) (drop_more source end 0 some) ∙ feed) in
     let part : slice_range source at (at + length left) ≡ left = (let n : at + length left - at ≡ length left = omega arith in ap (λ k. take k (drop at source)) n ∙ ap (take (length left)) behind ∙ take-past left (replicate parts.count 32 ++ drop end source)) in
-    record {
-      low = omega arith;
-      boundary = IsCharBoundary-before_ascii source (at + length left) inside first;
-      plain = ap (list_all is_plain_byte) part ∙ front-all is_plain_byte left (replicate parts.count 32) (sym (ap (list_all is_plain_byte) parts.is) ∙ found.plain);
-      stays = ap (list_all (stays_text true)) part ∙ front-all (stays_text true) left (replicate parts.count 32) (sym (ap (list_all (stays_text true)) parts.is) ∙ found.stays);
-      spaces = ap (λ t. not ((begins_with 32 (drop (at + length left) source) || begins_with 10 (drop (at + length left) source)) && ends_with 32 t)) part
-          ∙ ap (λ v. not ((begins_with 32 (drop (at + length left) source) || begins_with 10 (drop (at + length left) source)) && v)) parts.ended
-          ∙ none (begins_with 32 (drop (at + length left) source) || begins_with 10 (drop (at + length left) source));
-      ascii = λ _. first;
-    }
-  where
-    none : (next : Bool) → not (next && false) ≡ true
-    none true = refl
-    none false = refl
+    search (rules, (IsCharBoundary-before_ascii source (at + length left) inside first),
+        (ap (list_all is_plain_byte) part ∙ front-all is_plain_byte left (replicate parts.count 32) (sym (ap (list_all is_plain_byte) parts.is) ∙ found.plain)),
+        (ap (list_all (stays_text true)) part ∙ front-all (stays_text true) left (replicate parts.count 32) (sym (ap (list_all (stays_text true)) parts.is) ∙ found.stays)),
+        (ap (λ t. not ((begins_with 32 (drop (at + length left) source) || begins_with 10 (drop (at + length left) source)) && ends_with 32 t)) part
+            ∙ ap (λ v. not ((begins_with 32 (drop (at + length left) source) || begins_with 10 (drop (at + length left) source)) && v)) parts.ended
+            ∙ (elim (begins_with 32 (drop (at + length left) source) || begins_with 10 (drop (at + length left) source)) as (λ next. not (next && false) ≡ true) [ true ↦ refl | false ↦ refl ])))
 
 -- a source without markup is one text
 
@@ -173,8 +134,7 @@ plain-to-end source e =
     sym (ap (list_all is_plain_byte) (ap (λ n. take n source) all ∙ take_all (length source) source (omega arith))) ∙ found.plain
 
 pub one-text : (rules : Rules) (defined : Defined) (source : List ℕ) → (length source == 0) ≡ false → length source ≡ next_place is_marked source 0 → inlines_of rules defined source ≡ Text source ∷ []
-one-text rules defined [] some e = absurd (cc some)
-one-text rules defined (b ∷ bs) some e = plain_is_itself rules defined (b ∷ bs) (plain-to-end (b ∷ bs) e)
+one-text rules defined source some e = grind (arith, nat_tests, plain_is_itself, plain-to-end)
 
 -- the next markup is at the end just where there is none
 none-marked : (text : List ℕ) → (position_or_len is_marked text == length text) ≡ not (list_any is_marked text)
@@ -198,8 +158,4 @@ is-unmarked source =
     ap (λ n. n == length source) place ∙ none-marked source
 
 pub is-empty : (source : List ℕ) → (length source == 0) ≡ is_empty source
-is-empty [] = refl
-is-empty (b ∷ bs) = some (length bs)
-  where
-    some : (n : ℕ) → (suc n == 0) ≡ false
-    some n = grind (arith, nat_tests)
+is-empty source = grind (arith, nat_tests)

@@ -1,32 +1,24 @@
 -- Marks are written one after another, while the text before the next one waits.
-use Rattle.std.proofs.Common.{◌≡◌, ℕ, ◌+◌, ◌<◌, ◌≤◌, ◌==◌, ◌&&◌, true, false, List, [], ◌∷◌, ◌++◌, length, drop, get_or, refl, sym, ap, subst, ◌∙◌, arith, append_assoc}
-use Rattle.std.specs.Prelude.{replicate, Result, Ok, Err, IfOk}
-use Rattle.std.specs.List.{slice_range, list_all}
-use Rattle.std.specs.Str.{IsCharBoundary}
-use Rattle.std.proofs.lemmas.Bool.{and_parts, eqb-true, cond-true}
-use Rattle.std.proofs.lemmas.List.{append-nil, drop_more, drop_all, get_or_read, get_or_default}
-use Rattle.cm_tree.specs.Definitions.{Targets}
-use Rattle.cm_html.specs.Escape.{escape}
-use Rattle.cm_scan.specs.spans.CodeSpans.{one_line}
-use Rattle.cm_inline.specs.declared.brackets.Reader.{Reader}
-use Rattle.cm_inline.specs.declared.marks.Kind.{Kind}
+use Rattle.cm_inline.proofs.lemmas.Words.{◌≡◌, ℕ, ◌+◌, ◌<◌, ◌≤◌, true, false, List, [], ◌∷◌, ◌++◌, length, drop, get_or, sym, ap, subst, ◌∙◌, arith, append_assoc}
+use Rattle.cm_inline.proofs.lemmas.Words.{Result, slice_range, IsCharBoundary, and_parts, eqb-true, drop_more, drop_all, get_or_read, get_or-map, Targets, escape}
+use Rattle.cm_inline.proofs.lemmas.Words.{one_line, Reader, Mark, rules, nat_tests}
+use Rattle.std.specs.Prelude.{IfOk}
+use Rattle.std.proofs.lemmas.List.{append-nil, get_or_default}
 use Rattle.cm_inline.specs.declared.marks.Kind.TheVariants as kinds
-use Rattle.cm_inline.specs.declared.marks.Mark.{Mark}
 use Rattle.cm_inline.specs.declared.marks.Place.{Place}
 use Rattle.cm_inline.specs.declared.runs.Run as held
-use Rattle.cm_inline.specs.steps.pairing.Events.{Event, Rest}
-use Rattle.cm_inline.specs.steps.pairing.Parts.{starts, run_events, part_events, events_of}
+use Rattle.cm_inline.specs.steps.pairing.Parts.{events_of}
 use Rattle.cm_inline.specs.steps.pairing.Parts as parts
-use Rattle.cm_inline.specs.steps.pairing.States.{no_run, run_at}
-use Rattle.cm_inline.specs.steps.pairing.Readings.{end_html, Mode, Tags, Alternative, Page, page, write_all}
-use Rattle.cm_inline.specs.steps.Marks.{texts, stays_text, tag_numbered, part_of_kind, events_in, IsUnmarked, IsOfKind, AreLaid, IsSettled}
-use Rattle.cm_inline.specs.steps.Runs.{byte_of, run_of, paired_run, runs_in, pairs_in}
+use Rattle.cm_inline.specs.steps.pairing.Readings.{Mode, Tags, Alternative, Page, page, write_all}
+use Rattle.cm_inline.specs.steps.Marks.{events_in, IsUnmarked, AreLaid, IsSettled}
+use Rattle.cm_inline.specs.steps.Runs.{runs_in, pairs_in}
 use Rattle.cm_inline.specs.steps.Standalone.{IsBetween}
-use Rattle.cm_inline.specs.steps.Writing.{Adds, no_mark, mark_numbered, mark_events, events_from, events_after, events_at, is_unpaired, is_text, is_end_of, mode_after, IsMarkIn, GoesOn, TextWaits, IsImageAt, IsWrittenTo}
-use Rattle.cm_inline.proofs.lemmas.HtmlLemmas.{run-html, text-html, slice-both, slice-none}
-use Rattle.cm_inline.proofs.lemmas.LaidLemmas.{get_or-map, events-next, events-last, settled-mark, settled-behind}
+use Rattle.cm_inline.specs.steps.Writing.{Adds, no_mark, mark_numbered, mark_events, events_from, events_after, events_at, is_text, is_end_of, mode_after, IsMarkIn, GoesOn, TextWaits, IsImageAt, IsWrittenTo}
+use Rattle.cm_inline.proofs.lemmas.HtmlLemmas.{run-html, text-html}
+use Rattle.cm_inline.proofs.lemmas.LaidLemmas.{events-next, events-last, settled-mark, settled-behind}
 use Rattle.cm_inline.proofs.lemmas.TagLemmas.{ends-last, starts-none}
 use Rattle.cm_inline.proofs.lemmas.WriteLemmas.{write-append, write-from, mode-same, texts-tags, texts-alternative}
+use Rattle.cm_inline.proofs.lemmas.SliceLemmas.{slice-both, slice-none}
 
 abbrev mode : Page → Mode
 mode p = p.mode
@@ -35,43 +27,7 @@ mode p = p.mode
 text-mark : (source : List ℕ) (targets : Targets) (reader : Reader) (mark : Mark) (html : List ℕ) → IsMarkIn source targets reader mark → is_text reader.runs.runs.items mark.kind ≡ true
     → write_all (page html Tags) (mark_events source targets reader mark) ≡ page (html ++ slice_range source mark.at mark.end) Tags
 unfolding write_all
-text-mark source targets reader mark html m is = go mark.kind m.kind is
-  where
-    runs : List held.Run
-    runs = reader.runs.runs.items
-
-    text : List ℕ
-    text = slice_range source mark.at mark.end
-
-    events : Kind → List Event
-    events kind = part_events (runs_in runs) (pairs_in reader.runs.pairs.items) (part_of_kind source targets reader.links.items mark.at mark.end kind)
-
-    unpaired : (number : ℕ) (r : held.Run) → text ≡ replicate r.run.whole (byte_of r.run.marker) → is_unpaired r ≡ true → write_all (page html Tags) (run_events (pairs_in reader.runs.pairs.items) number (paired_run r)) ≡ page (html ++ text) Tags
-    unpaired number r e is =
-        let pairs = pairs_in reader.runs.pairs.items in
-        let first = and_parts (r.run.left == r.run.whole && r.opened == 0) (r.from == r.to) is in
-        let second = and_parts (r.run.left == r.run.whole) (r.opened == 0) first.0 in
-        let left : r.run.left ≡ r.run.whole = eqb-true r.run.left r.run.whole second.0 in
-        let opened : r.opened ≡ 0 = eqb-true r.opened 0 second.1 in
-        let to : r.from ≡ r.to = eqb-true r.from r.to first.1 in
-        ap (λ t. write_all (page html Tags) (t ++ Rest number (run_of r.run) ∷ starts pairs r.opened)) (ends-last pairs r.from r.to (omega (arith, to)))
-        ∙ ap (λ t. write_all (page (html ++ escape (replicate r.run.left (byte_of r.run.marker))) Tags) t) (ap (starts pairs) opened ∙ starts-none pairs)
-        ∙ ap (λ t. page (html ++ t) Tags) (run-html r.run.marker r.run.left ∙ ap (λ n. replicate n (byte_of r.run.marker)) left ∙ sym e)
-
-    go : (kind : Kind) → IsOfKind source targets runs reader.links.items mark.at mark.end kind → is_text runs kind ≡ true → write_all (page html Tags) (events kind) ≡ page (html ++ text) Tags
-    go kinds.Plain h e = ap (λ t. page (html ++ t) Tags) (text-html text h)
-    go (kinds.Run number) h e =
-        ap (λ r. write_all (page html Tags) (run_events (pairs_in reader.runs.pairs.items) number r)) (get_or-map paired_run runs number no_run parts.no_run h.0) ∙ unpaired number (run_at runs number) h.1 e
-    go kinds.Escaped h e = absurd (cc e)
-    go kinds.Nothing h e = absurd (cc e)
-    go (kinds.Character c) h e = absurd (cc e)
-    go (kinds.Code from to) h e = absurd (cc e)
-    go kinds.Html h e = absurd (cc e)
-    go (kinds.Autolink is_address) h e = absurd (cc e)
-    go kinds.Soft h e = absurd (cc e)
-    go kinds.Hard h e = absurd (cc e)
-    go (kinds.Start number) h e = absurd (cc e)
-    go (kinds.End number) h e = absurd (cc e)
+text-mark source targets reader mark html m is = search (rules, and_parts, eqb-true, ends-last, starts-none, run-html, text-html, get_or-map)
 
 -- where marks are laid, there is the boundary of a character
 laid-boundary : (source : List ℕ) (targets : Targets) (reader : Reader) (from : ℕ) (ms : List Mark) → AreLaid false source targets reader.runs.runs.items reader.links.items from (length source) ms → IsCharBoundary source from
@@ -85,30 +41,12 @@ laid-next source targets reader place n h laid = subst (AreLaid false source tar
 
 -- at first nothing is written
 pub waits-first : (source : List ℕ) (targets : Targets) (reader : Reader) (html : List ℕ) → IsSettled false source targets reader → TextWaits source targets reader html html (record { mark = 0; from = 0 })
-waits-first source targets reader html settled =
-    let low = laid-boundary source targets reader 0 reader.marks.items settled.laid in
-    record {
-      place = 0;
-      between = (omega arith, low, low);
-      laid = settled.laid;
-      same = ap (λ t. write_all (page t Tags) (events_in source targets reader)) (sym (ap (λ t. html ++ t) (slice-none source 0 0 refl) ∙ append-nil html));
-    }
+waits-first source targets reader html settled = search (rules, laid-boundary, slice-none, append-nil)
 
 -- the text up to a mark, then the mark and what follows it
 waits-mark : (source : List ℕ) (targets : Targets) (reader : Reader) (old html : List ℕ) (next : Place) → next.mark < length reader.marks.items → TextWaits source targets reader old html next
     → write_all (page old Tags) (events_in source targets reader) ≡ write_all (page (html ++ slice_range source next.from (mark_numbered reader.marks.items next.mark).at) Tags) (events_at source targets reader next.mark)
-waits-mark source targets reader old html next h w =
-    let n = next.mark in
-    let mark = mark_numbered reader.marks.items n in
-    let ms = drop (n + 1) reader.marks.items in
-    let laid = laid-next source targets reader w.place n h w.laid in
-    let before = html ++ slice_range source next.from w.place in
-    let more = mark_events source targets reader mark ++ events_from source targets reader mark.end ms in
-    let text = events_of (runs_in reader.runs.runs.items) (pairs_in reader.runs.pairs.items) (texts (slice_range source w.place mark.at)) in
-    w.same ∙ ap (λ t. write_all (page before Tags) (events_from source targets reader w.place t)) (drop_more reader.marks.items n no_mark h) ∙ ap (write_all (page before Tags)) (events-next source targets reader w.place mark ms)
-    ∙ write-append (page before Tags) text more
-    ∙ ap (λ p. write_all p more) (texts-tags (runs_in reader.runs.runs.items) (pairs_in reader.runs.pairs.items) (slice_range source w.place mark.at) before laid.0.text)
-    ∙ ap (λ t. write_all (page t Tags) more) (append_assoc html (slice_range source next.from w.place) (slice_range source w.place mark.at) ∙ ap (λ t. html ++ t) (sym (slice-both source next.from w.place mark.at w.between.0 laid.0.between.0)))
+waits-mark source targets reader old html next h w = search (rules, laid-next, drop_more, events-next, write-append, texts-tags, append_assoc, slice-both)
 
 -- the place up to which the text waits
 pub waits-between : (source : List ℕ) (targets : Targets) (reader : Reader) (old html : List ℕ) (next : Place) → next.mark < length reader.marks.items → TextWaits source targets reader old html next → IsBetween source next.from (mark_numbered reader.marks.items next.mark).at
@@ -119,42 +57,17 @@ waits-between source targets reader old html next h w =
 -- a mark that is text waits too
 pub waits-text : (source : List ℕ) (targets : Targets) (reader : Reader) (old html : List ℕ) (next : Place) → next.mark < length reader.marks.items → IsSettled false source targets reader → TextWaits source targets reader old html next
     → is_text reader.runs.runs.items (mark_numbered reader.marks.items next.mark).kind ≡ true → TextWaits source targets reader old html (record { mark = next.mark + 1; from = next.from })
-waits-text source targets reader old html next h settled w is =
-    let n = next.mark in
-    let mark = mark_numbered reader.marks.items n in
-    let ms = drop (n + 1) reader.marks.items in
-    let laid = laid-next source targets reader w.place n h w.laid in
-    let at = waits-between source targets reader old html next h w in
-    let known = settled-mark false source targets reader n h settled in
-    let before = html ++ slice_range source next.from mark.at in
-    let more = events_from source targets reader mark.end ms in
-    record {
-      place = mark.end;
-      between = (omega (arith, at.0, laid.1.0), at.1, laid.1.2);
-      laid = laid.3;
-      same = waits-mark source targets reader old html next h w ∙ write-append (page before Tags) (mark_events source targets reader mark) more
-          ∙ ap (λ p. write_all p more) (text-mark source targets reader mark before known is)
-          ∙ ap (λ t. write_all (page t Tags) more) (append_assoc html (slice_range source next.from mark.at) (slice_range source mark.at mark.end) ∙ ap (λ t. html ++ t) (sym (slice-both source next.from mark.at mark.end at.0 laid.1.0)));
-    }
+waits-text source targets reader old html next h settled w is = grind (arith, nat_tests, laid-next, waits-between, settled-mark, waits-mark, write-append, text-mark, append_assoc, slice-both)
 
 -- no alternative text is left open
 pub waits-mode : (source : List ℕ) (targets : Targets) (reader : Reader) (old html new : List ℕ) (next : Place) → next.mark < length reader.marks.items → IsSettled false source targets reader → TextWaits source targets reader old html next
     → new ≡ html ++ slice_range source next.from (mark_numbered reader.marks.items next.mark).at → (write_all (page new Tags) (events_at source targets reader next.mark)).mode ≡ Tags
-waits-mode source targets reader old html new next h settled w e =
-    ap (λ t. mode (write_all (page t Tags) (events_at source targets reader next.mark))) e ∙ sym (ap (λ p. mode p) (waits-mark source targets reader old html next h w)) ∙ mode-same old [] Tags (events_in source targets reader) ∙ settled.ends
+waits-mode source targets reader old html new next h settled w e = search (rules, waits-mark, mode-same)
 
 -- another mark is written, with the text before it
 pub waits-on : (source : List ℕ) (targets : Targets) (reader : Reader) (old html before new : List ℕ) (next further : Place) → next.mark < length reader.marks.items → TextWaits source targets reader old html next
     → before ≡ html ++ slice_range source next.from (mark_numbered reader.marks.items next.mark).at → GoesOn source targets reader (page before Tags) (events_at source targets reader next.mark) new further → TextWaits source targets reader old new further
-waits-on source targets reader old html before new next further h w e g =
-    let at = laid-boundary source targets reader further.from (drop further.mark reader.marks.items) g.laid in
-    record {
-      place = further.from;
-      between = (omega arith, at, at);
-      laid = g.laid;
-      same = waits-mark source targets reader old html next h w ∙ ap (λ t. write_all (page t Tags) (events_at source targets reader next.mark)) (sym e) ∙ g.same
-          ∙ ap (λ t. write_all (page t Tags) (events_from source targets reader further.from (drop further.mark reader.marks.items))) (sym (ap (λ t. new ++ t) (slice-none source further.from further.from refl) ∙ append-nil new));
-    }
+waits-on source targets reader old html before new next further h w e g = search (rules, laid-boundary, waits-mark, slice-none, append-nil)
 
 -- the text after the last mark
 laid-last : (source : List ℕ) (targets : Targets) (reader : Reader) (place n : ℕ) → length reader.marks.items ≤ n → AreLaid false source targets reader.runs.runs.items reader.links.items place (length source) (drop n reader.marks.items) → IsUnmarked false source place (length source)
@@ -162,18 +75,7 @@ laid-last source targets reader place n h laid = subst (AreLaid false source tar
 
 pub waits-last : (source : List ℕ) (targets : Targets) (reader : Reader) (old html new : List ℕ) (next : Place) → length reader.marks.items ≤ next.mark → TextWaits source targets reader old html next → new ≡ html ++ slice_range source next.from (length source)
     → new ≡ old ++ (write_all (page [] Tags) (events_in source targets reader)).html
-waits-last source targets reader old html new next h w e =
-    let last = laid-last source targets reader w.place next.mark h w.laid in
-    let before = html ++ slice_range source next.from w.place in
-    let rest = slice_range source w.place (length source) in
-    let whole : write_all (page old Tags) (events_in source targets reader) ≡ page new Tags =
-    w.same ∙ ap (λ t. write_all (page before Tags) (events_from source targets reader w.place t)) (drop_all next.mark reader.marks.items h) ∙ ap (write_all (page before Tags)) (events-last source targets reader w.place)
-    ∙ texts-tags (runs_in reader.runs.runs.items) (pairs_in reader.runs.pairs.items) rest before last.text
-    ∙ ap (λ t. page t Tags) (append_assoc html (slice_range source next.from w.place) rest ∙ ap (λ t. html ++ t) (sym (slice-both source next.from w.place (length source) w.between.0 last.between.0)) ∙ sym e) in
-    ap (λ p. html_of p) (sym whole ∙ write-from old Tags (events_in source targets reader))
-  where
-    html_of : Page → List ℕ
-    html_of p = p.html
+waits-last source targets reader old html new next h w e = search (rules, laid-last, drop_all, events-last, texts-tags, append_assoc, slice-both, write-from)
 
 -- one mark, and what follows it
 
@@ -194,58 +96,35 @@ mark-then source targets reader old html at mark is e =
 pub image-at : (source : List ℕ) (targets : Targets) (reader : Reader) (old html : List ℕ) (at number : ℕ) (mark : Mark) → IsSettled false source targets reader → at < length reader.marks.items → mark ≡ mark_numbered reader.marks.items at
     → write_all (page old Tags) (mark_events source targets reader mark) ≡ page html (mode_after reader.links.items mark.kind) → mode_after reader.links.items mark.kind ≡ Alternative number
     → (write_all (page old Tags) (events_at source targets reader at)).mode ≡ Tags → IsImageAt source targets reader html at number
-image-at source targets reader old html at number mark settled h is e image ends = record {
-  settled = settled;
-  within = h;
-  ends = ap (λ m. mode (write_all (page html m) (events_after source targets reader at))) (sym image) ∙ sym (ap (λ p. mode p) (mark-then source targets reader old html at mark is e)) ∙ ends;
-}
+image-at source targets reader old html at number mark settled h is e image ends = search (rules, mark-then)
 
 image-goes-on : (source : List ℕ) (targets : Targets) (reader : Reader) (old html new : List ℕ) (at number : ℕ) (mark : Mark) (next : Place) → mark ≡ mark_numbered reader.marks.items at
     → write_all (page old Tags) (mark_events source targets reader mark) ≡ page html (mode_after reader.links.items mark.kind) → mode_after reader.links.items mark.kind ≡ Alternative number
     → GoesOn source targets reader (page html (Alternative number)) (events_after source targets reader at) new next → GoesOn source targets reader (page old Tags) (events_at source targets reader at) new next
-image-goes-on source targets reader old html new at number mark next is e image g = record {
-  laid = g.laid;
-  same = mark-then source targets reader old html at mark is e ∙ ap (λ m. write_all (page html m) (events_after source targets reader at)) image ∙ g.same;
-}
+image-goes-on source targets reader old html new at number mark next is e image g = search (rules, mark-then)
 
 pub image-ends : {E : Type 0} (source : List ℕ) (targets : Targets) (reader : Reader) (old html new : List ℕ) (at number : ℕ) (mark : Mark) (r : Result Place E) → mark ≡ mark_numbered reader.marks.items at
     → write_all (page old Tags) (mark_events source targets reader mark) ≡ page html (mode_after reader.links.items mark.kind) → mode_after reader.links.items mark.kind ≡ Alternative number → IsImageAt source targets reader html at number
     → IfOk r (λ next. (targets : Targets) → IsImageAt source targets reader html at number → GoesOn source targets reader (page html (Alternative number)) (events_after source targets reader at) new next)
     → IfOk r (λ next. GoesOn source targets reader (page old Tags) (events_at source targets reader at) new next)
-image-ends source targets reader old html new at number mark (Ok next) is e image known goes = image-goes-on source targets reader old html new at number mark next is e image (goes targets known)
-image-ends source targets reader old html new at number mark (Err e) is f image known goes = tt
+image-ends source targets reader old html new at number mark r is f image known goes = grind (arith, nat_tests, image-goes-on)
 
 pub mark-goes-on : (source : List ℕ) (targets : Targets) (reader : Reader) (old html : List ℕ) (at : ℕ) (mark : Mark) → IsSettled false source targets reader → at < length reader.marks.items → mark ≡ mark_numbered reader.marks.items at
     → write_all (page old Tags) (mark_events source targets reader mark) ≡ page html (mode_after reader.links.items mark.kind) → mode_after reader.links.items mark.kind ≡ Tags
     → GoesOn source targets reader (page old Tags) (events_at source targets reader at) html (record { mark = at + 1; from = mark.end })
-mark-goes-on source targets reader old html at mark settled h is e tags =
-    subst (λ (m : Mark). GoesOn source targets reader (page old Tags) (events_at source targets reader at) html (record { mark = at + 1; from = m.end })) (sym is)
-    (record {
-      laid = settled-behind false source targets reader at h settled;
-      same = mark-then source targets reader old html at mark is e ∙ ap (λ m. write_all (page html m) (events_after source targets reader at)) tags;
-    })
+mark-goes-on source targets reader old html at mark settled h is e tags = search (rules, settled-behind, mark-then)
 
 -- the alternative text
 
 pub alternative-first : (source : List ℕ) (targets : Targets) (reader : Reader) (html : List ℕ) (start link : ℕ) (mark : Mark) → mark ≡ mark_numbered reader.marks.items start → IsImageAt source targets reader html start link
     → IsWrittenTo source targets reader html html start link mark.end (start + 1)
-alternative-first source targets reader html start link mark is image =
-    subst (λ (m : Mark). IsWrittenTo source targets reader html html start link m.end (start + 1)) (sym is) (record { laid = settled-behind false source targets reader start image.within image.settled; same = refl })
+alternative-first source targets reader html start link mark is image = search (rules, settled-behind)
 
 -- the text up to the next mark
 alternative-text : (source : List ℕ) (targets : Targets) (reader : Reader) (old html before : List ℕ) (start link from at : ℕ) → at < length reader.marks.items → IsWrittenTo source targets reader old html start link from at
     → before ≡ html ++ escape (one_line (slice_range source from (mark_numbered reader.marks.items at).at))
     → write_all (page old (Alternative link)) (events_after source targets reader start) ≡ write_all (page before (Alternative link)) (events_at source targets reader at)
-alternative-text source targets reader old html before start link from at h w e =
-    let mark = mark_numbered reader.marks.items at in
-    let ms = drop (at + 1) reader.marks.items in
-    let text = slice_range source from mark.at in
-    let more = mark_events source targets reader mark ++ events_from source targets reader mark.end ms in
-    w.same ∙ ap (λ t. write_all (page html (Alternative link)) (events_from source targets reader from t)) (drop_more reader.marks.items at no_mark h)
-    ∙ ap (write_all (page html (Alternative link))) (events-next source targets reader from mark ms)
-    ∙ write-append (page html (Alternative link)) (events_of (runs_in reader.runs.runs.items) (pairs_in reader.runs.pairs.items) (texts text)) more
-    ∙ ap (λ p. write_all p more) (texts-alternative (runs_in reader.runs.runs.items) (pairs_in reader.runs.pairs.items) text html link)
-    ∙ ap (λ t. write_all (page t (Alternative link)) more) (sym e)
+alternative-text source targets reader old html before start link from at h w e = search (rules, drop_more, events-next, write-append, texts-alternative)
 
 pub alternative-between : (source : List ℕ) (targets : Targets) (reader : Reader) (old html : List ℕ) (start link from at : ℕ) (mark : Mark) → at < length reader.marks.items → mark ≡ mark_numbered reader.marks.items at
     → IsWrittenTo source targets reader old html start link from at → IsBetween source from mark.at
@@ -268,41 +147,17 @@ alternative-next source targets reader old html before new start link from at ma
 end-mark : (source : List ℕ) (targets : Targets) (reader : Reader) (link : ℕ) (html : List ℕ) (mark : Mark) → is_end_of link mark.kind ≡ true
     → write_all (page html (Alternative link)) (mark_events source targets reader mark) ≡ write_all (page html Tags) (mark_events source targets reader mark)
 unfolding write_all
-end-mark source targets reader link html mark is = go mark.kind is
-  where
-    events : Kind → List Event
-    events kind = part_events (runs_in reader.runs.runs.items) (pairs_in reader.runs.pairs.items) (part_of_kind source targets reader.links.items mark.at mark.end kind)
-
-    go : (kind : Kind) → is_end_of link kind ≡ true → write_all (page html (Alternative link)) (events kind) ≡ write_all (page html Tags) (events kind)
-    go (kinds.End number) e = cond-true (number == link) (page (html ++ end_html (tag_numbered source targets reader.links.items number)) Tags) (page html (Alternative link)) e
-    go kinds.Plain e = absurd (cc e)
-    go (kinds.Run number) e = absurd (cc e)
-    go kinds.Escaped e = absurd (cc e)
-    go kinds.Nothing e = absurd (cc e)
-    go (kinds.Character c) e = absurd (cc e)
-    go (kinds.Code from to) e = absurd (cc e)
-    go kinds.Html e = absurd (cc e)
-    go (kinds.Autolink is_address) e = absurd (cc e)
-    go kinds.Soft e = absurd (cc e)
-    go kinds.Hard e = absurd (cc e)
-    go (kinds.Start number) e = absurd (cc e)
+end-mark source targets reader link html mark is = search rules
 
 -- from a mark on, without text before it
 events-here : (source : List ℕ) (targets : Targets) (reader : Reader) (at : ℕ) → at < length reader.marks.items
     → events_from source targets reader (mark_numbered reader.marks.items at).at (drop at reader.marks.items) ≡ events_at source targets reader at
 unfolding events_of
-events-here source targets reader at h =
-    let m = mark_numbered reader.marks.items at in
-    ap (events_from source targets reader m.at) (drop_more reader.marks.items at no_mark h) ∙ events-next source targets reader m.at m (drop (at + 1) reader.marks.items)
-    ∙ ap (λ t. events_of (runs_in reader.runs.runs.items) (pairs_in reader.runs.pairs.items) (texts t) ++ events_at source targets reader at) (slice-none source m.at m.at refl)
+events-here source targets reader at h = search (rules, drop_more, events-next, slice-none)
 
 laid-here : (source : List ℕ) (targets : Targets) (reader : Reader) (from at : ℕ) → at < length reader.marks.items → AreLaid false source targets reader.runs.runs.items reader.links.items from (length source) (drop at reader.marks.items)
     → AreLaid false source targets reader.runs.runs.items reader.links.items (mark_numbered reader.marks.items at).at (length source) (drop at reader.marks.items)
-laid-here source targets reader from at h laid =
-    let m = mark_numbered reader.marks.items at in
-    let next = laid-next source targets reader from at h laid in
-    let here : IsUnmarked false source m.at m.at = record { between = (omega arith, next.1.1, next.1.1); text = ap (list_all (stays_text false)) (slice-none source m.at m.at refl) } in
-    subst (AreLaid false source targets reader.runs.runs.items reader.links.items m.at (length source)) (sym (drop_more reader.marks.items at no_mark h)) (here, next.1, next.2, next.3)
+laid-here source targets reader from at h laid = search (rules, laid-next, slice-none, drop_more)
 
 pub alternative-end : (source : List ℕ) (targets : Targets) (reader : Reader) (old html before : List ℕ) (start link from at : ℕ) (mark : Mark) → at < length reader.marks.items → mark ≡ mark_numbered reader.marks.items at
     → IsWrittenTo source targets reader old html start link from at → before ≡ html ++ escape (one_line (slice_range source from mark.at)) → is_end_of link mark.kind ≡ true

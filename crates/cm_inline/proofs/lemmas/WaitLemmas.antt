@@ -1,20 +1,18 @@
 -- What a search, a pair, and a run that is passed do to the runs that wait, and to the looks.
-use Rattle.std.proofs.Common.{◌≡◌, ◌⊎◌, inl, inr, ℕ, zero, ◌+◌, ◌<◌, ◌≤◌, Bool, true, false, cond, nat_le, List, [], ◌∷◌, ◌++◌, length, reverse, take, get_or, set, Some, None, refl, sym, ap, subst, ◌∙◌, arith}
+use Rattle.cm_inline.proofs.lemmas.Words.{◌≡◌, ℕ, zero, ◌+◌, ◌<◌, ◌≤◌, Bool, true, false, cond, nat_le, List, [], ◌∷◌, ◌++◌, length, reverse, take, get_or, set, Some}
+use Rattle.cm_inline.proofs.lemmas.Words.{None, refl, sym, ap, subst, ◌∙◌, arith, get_or-set_same, get_or-set_other, get_or-take, length-set, length-take}
+use Rattle.cm_inline.proofs.lemmas.Words.{sum_by-append, sum_by-cons, Run, delimiters_match, Item, Delimiters, nearest_opener, used, up_to_pair, opened_at, rules}
 use Rattle.std.proofs.lemmas.Bool.{leb-false}
-use Rattle.std.proofs.lemmas.List.{get_or-set_same, get_or-set_other, get_or-take, length-set, length-take}
 use Rattle.std.proofs.Math.Seq.{take-set-lt}
-use Rattle.std.proofs.lemmas.List.Sums.{sum_by-append, sum_by-cons, sum_by-set}
-use Rattle.cm_scan.specs.inlines.Delimiters.{Run, delimiters_match}
-use Rattle.cm_scan.specs.inlines.Pairing.{Item, Delimiters, nearest_opener, used}
-use Rattle.cm_scan.specs.inlines.OnePass.{up_to_pair}
-use Rattle.cm_scan.proofs.lemmas.inlines.PairingLemmas.{opened_at, used-some}
+use Rattle.std.proofs.lemmas.List.Sums.{sum_by-set}
+use Rattle.cm_scan.proofs.lemmas.inlines.PairingLemmas.{used-some}
 use Rattle.cm_inline.specs.steps.Entries.{Entry, Listed, answers, above, reserve, Below, Falling}
 use Rattle.cm_inline.specs.steps.Searching.{kind, IsMarked, find_opener, looks_for, AreSound, characters}
 use Rattle.cm_inline.specs.steps.Openers.{spent}
 use Rattle.cm_inline.proofs.lemmas.BottomLemmas.{kind-small}
 use Rattle.cm_inline.proofs.lemmas.NumberLemmas.{nat-split as nat_split}
 use Rattle.cm_inline.proofs.lemmas.ReserveLemmas.{reserve-push, reserve-remove, above-all}
-use Rattle.cm_inline.proofs.lemmas.SearchLemmas.{FoundBy, none-looks, find-none, sound-raise, sound-push, sound-below}
+use Rattle.cm_inline.proofs.lemmas.SearchLemmas.{FoundBy, none-looks, find-none, sound-raise, sound-push, sound-below, below-more}
 use Rattle.cm_inline.specs.steps.pairing.Events.{Event, Rest}
 use Rattle.cm_inline.specs.steps.pairing.Readings.{StandFor}
 use Rattle.cm_inline.specs.steps.pairing.Stacks.{NoneOpens, Stacked, taken, rest_of}
@@ -35,17 +33,7 @@ pub waits-ready : {fs : List Event} {before : List Item} {l : Listed} {bs : List
 waits-ready w = record { falling = w.falling; under = w.under; size = w.size; low = w.low }
 
 pub ready-fails : (c : Run) (l : Listed) (bs : List ℕ) (n : ℕ) → IsReady l bs → IsReady (with_looks l n) (set bs (kind c) l.next)
-ready-fails c l bs n w = record { falling = w.falling; under = w.under; size = length-set bs (kind c) l.next ∙ w.size; low = low }
-  where
-    within : kind c < length bs
-    within = omega (arith, kind-small c, w.size)
-
-    low : (j : ℕ) → get_or (set bs (kind c) l.next) j 0 ≤ l.next
-    low j = go (nat_split j (kind c))
-      where
-        go : (j ≡ kind c) ⊎ (j ≡ kind c → ⊥) → get_or (set bs (kind c) l.next) j 0 ≤ l.next
-        go (inl q) = let s : get_or (set bs (kind c) l.next) j 0 ≡ l.next = ap (λ i. get_or (set bs (kind c) l.next) i 0) q ∙ get_or-set_same bs (kind c) l.next 0 within in omega (arith, s)
-        go (inr q) = let s : get_or bs j 0 ≤ l.next = w.low j in omega (arith, get_or-set_other bs (kind c) j l.next 0 q, s)
+ready-fails c l bs n w = search (rules, length-set, kind-small, nat_split, get_or-set_same, get_or-set_other)
 
 pub paid-fails : (c : Run) (l : Listed) (bs : List ℕ) → IsReady l bs → find_opener c (get_or bs (kind c) 0) l.entries ≡ None → (kinds : ℕ) → kind c < kinds
     → spent kinds (with_looks l (looks_for c (get_or bs (kind c) 0) l.entries)) (set bs (kind c) l.next) ≤ spent kinds l bs
@@ -157,36 +145,29 @@ pub record Pairs (fs : List Event) (before : List Item) (c : Run) (e : Entry) (l
 
 pub waits-pairs : (fs : List Event) (before : List Item) (c : Run) (e : Entry) (l : Listed) (bs : List ℕ) → WaitAsOpeners fs before l bs → (g : FoundBy c (get_or bs (kind c) 0) l.entries e)
     → Pairs fs before c e l (after_pair c e (looks_for c (get_or bs (kind c) 0) l.entries) g.below l) bs
-waits-pairs fs before c e l bs w g = record {
-  below = g.below;
-  entries = refl;
-  found = found;
-  waits = record {
-    stacked = subst (Stacked (rest_of (used e.run c) e ++ g.below) (pair_events c e g.below fs before found)) (sym (pair-items c e.run found.low found.inside)) (pair-stacked c e g.below fs before found);
-    falling = ready.falling;
-    under = ready.under;
-    size = w.size;
-    low = w.low;
-    sound = (remains 0 c e l bs (waits-ready w) g).sound (sound-below bs g.passed (e ∷ g.below) (subst (AreSound bs) g.whole w.sound));
-  };
-  nearest = found-nearest c e g.below fs before found g.opens;
-  paid = paid-pairs c e l bs (waits-ready w) g;
-  made = omega (arith, g.looks);
-}
-  where
-    found : Found c e g.below fs before
-    found = stacked-found c g.passed e g.below fs before (subst (λ es. Stacked es fs before) g.whole w.stacked) g.none
-
-    ready : IsReady (after_pair c e (looks_for c (get_or bs (kind c) 0) l.entries) g.below l) bs
-    ready = ready-pairs c e l bs (looks_for c (get_or bs (kind c) 0) l.entries) (waits-ready w) g
+waits-pairs fs before c e l bs w g =
+    let found = stacked-found c g.passed e g.below fs before (subst (λ es. Stacked es fs before) g.whole w.stacked) g.none in
+    let ready = ready-pairs c e l bs (looks_for c (get_or bs (kind c) 0) l.entries) (waits-ready w) g in
+    record {
+      below = g.below;
+      entries = refl;
+      found = found;
+      waits = record {
+        stacked = subst (Stacked (rest_of (used e.run c) e ++ g.below) (pair_events c e g.below fs before found)) (sym (pair-items c e.run found.low found.inside)) (pair-stacked c e g.below fs before found);
+        falling = ready.falling;
+        under = ready.under;
+        size = w.size;
+        low = w.low;
+        sound = (remains 0 c e l bs (waits-ready w) g).sound (sound-below bs g.passed (e ∷ g.below) (subst (AreSound bs) g.whole w.sound));
+      };
+      nearest = found-nearest c e g.below fs before found g.opens;
+      paid = paid-pairs c e l bs (waits-ready w) g;
+      made = omega (arith, g.looks);
+    }
 
 -- a run that was passed: it waits, stays as it is, or is gone
 abbrev pub passed_by : Listed → List Entry → Listed
 passed_by l entries = record { entries = entries; looks = l.looks; next = l.next + 1 }
-
-below-more : (n m : ℕ) (es : List Entry) → n ≤ m → Below n es → Below m es
-below-more n m [] p h = tt
-below-more n m (e ∷ es) p h = let q : e.place < n = h.0 in (omega arith, below-more n m es p h.1)
 
 pub waits-opener : (fs : List Event) (before : List Item) (e : Entry) (l : Listed) (bs : List ℕ) → WaitAsOpeners fs before l bs → e.run.opens ≡ true → e.place ≡ l.next
     → WaitAsOpeners (fs ++ Rest e.place e.run ∷ []) (Delimiters e.run ∷ before) (passed_by l (e ∷ l.entries)) bs × ((kinds : ℕ) → spent kinds (passed_by l (e ∷ l.entries)) bs ≤ spent kinds l bs + (kinds + 1 + e.run.left))
@@ -203,18 +184,10 @@ waits-opener fs before e l bs w h at = (
 )
 
 pub waits-others : (fs gs : List Event) (before more : List Item) (l : Listed) (bs : List ℕ) → WaitAsOpeners fs before l bs → StandFor gs (reverse more) → NoneOpens more → WaitAsOpeners (fs ++ gs) (more ++ before) l bs
-waits-others fs gs before more l bs w g n =
-    record { stacked = stacked-more l.entries fs gs before more w.stacked g n; falling = w.falling; under = w.under; size = w.size; low = w.low; sound = w.sound }
+waits-others fs gs before more l bs w g n = search (rules, stacked-more)
 
 waits-next : (fs : List Event) (before : List Item) (l : Listed) (bs : List ℕ) → WaitAsOpeners fs before l bs → WaitAsOpeners fs before (passed_by l l.entries) bs
-waits-next fs before l bs w = record {
-  stacked = w.stacked;
-  falling = w.falling;
-  under = below-more l.next (l.next + 1) l.entries (omega arith) w.under;
-  size = w.size;
-  low = λ k. (let q : get_or bs k 0 ≤ l.next = w.low k in omega (arith, q));
-  sound = w.sound;
-}
+waits-next fs before l bs w = search (rules, below-more)
 
 pub waits-text : (fs : List Event) (before : List Item) (number : ℕ) (r : Run) (l : Listed) (bs : List ℕ) → WaitAsOpeners fs before l bs → r.opens ≡ false
     → WaitAsOpeners (fs ++ Rest number r ∷ []) (Delimiters r ∷ before) (passed_by l l.entries) bs

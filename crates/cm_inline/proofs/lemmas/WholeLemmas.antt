@@ -1,29 +1,21 @@
 -- How a source is read from one place to the next.
-use Rattle.std.proofs.Common.{◌≡◌, ℕ, zero, ◌+◌, ◌-◌, ◌^◌, ◌<◌, ◌≤◌, Bool, true, false, List, [], ◌∷◌, ◌++◌, length, take, drop, get_or, reverse, Some, refl, sym, ap, subst, ◌∙◌, arith}
-use Rattle.std.specs.Prelude.{nat_lt, if◌then◌else◌}
-use Rattle.std.specs.List.{slice_range}
-use Rattle.std.proofs.lemmas.Bool.Decides.{nat_tests}
-use Rattle.std.proofs.lemmas.List.{reverse-append, reverse-reverse, drop_more, append-nil, drop_all}
+use Rattle.cm_inline.proofs.lemmas.Words.{◌≡◌, ℕ, zero, ◌+◌, ◌-◌, ◌^◌, ◌<◌, ◌≤◌, true, false, List, [], ◌∷◌, ◌++◌, length, take, drop, get_or, reverse, Some, refl}
+use Rattle.cm_inline.proofs.lemmas.Words.{sym, ap, subst, ◌∙◌, arith, nat_lt, slice_range, nat_tests, reverse-append, reverse-reverse, drop_more, drop_all, Rules}
+use Rattle.cm_inline.proofs.lemmas.Words.{Targets, inlines_depth, emphasis_of, one_by_one, in_pieces, Atom, Defined, Bracketed, defined_in, with_item, add_atom}
+use Rattle.cm_inline.proofs.lemmas.Words.{item_step, items_after, inlines_of, depth_of_leaf, nests_past, plain_front_is_text, InlineFault, InlinesTooDeep, rules}
+use Rattle.std.proofs.lemmas.List.{append-nil}
 use Rattle.std.proofs.lemmas.List.Concat.{flat_map-append}
-use Rattle.cm_text.specs.Rules.{Rules}
-use Rattle.cm_tree.specs.Definitions.{Targets}
-use Rattle.cm_tree.specs.Depth.{inlines_depth}
 use Rattle.cm_scan.specs.inlines.Pairing as pairing
-use Rattle.cm_scan.specs.inlines.Pairing.{emphasis_of}
-use Rattle.cm_scan.specs.inlines.Pieces.{one_by_one, pieces_of, in_pieces}
-use Rattle.cm_scan.specs.inlines.Atoms.{Atom, Plain, Whole, Delimiter, OpenBracket, CloseBracket}
-use Rattle.cm_scan.specs.inlines.Brackets.{Defined, Bracketed, defined_in}
-use Rattle.cm_scan.specs.inlines.Inlines.{with_item, add_atom, item_step, items_after, inlines_of, depth_of_leaf, nests_past}
+use Rattle.cm_scan.specs.inlines.Pieces.{pieces_of}
 use Rattle.cm_scan.specs.inlines.Inlines as inlines
-use Rattle.cm_scan.proofs.lemmas.inlines.ReadingSteps.{reading_goes_on, bracket_step, plain_front_is_text}
+use Rattle.cm_scan.proofs.lemmas.inlines.ReadingSteps.{reading_goes_on, bracket_step}
 use Rattle.cm_scan.proofs.lemmas.inlines.PairingInPieces.{texts_in_pieces}
 use Rattle.cm_scan.proofs.lemmas.inlines.ReadingInPieces.{reading_in_pieces}
 use Rattle.cm_inline.specs.Reading.{Refused}
-use Rattle.cm_inline.specs.declared.fault.InlineFault.{InlineFault}
-use Rattle.cm_inline.specs.declared.fault.InlineFault.TheVariants.{InlinesTooDeep, NoMemory, SourceTooLong}
+use Rattle.cm_inline.specs.declared.fault.InlineFault.TheVariants.{SourceTooLong}
 use Rattle.cm_inline.specs.steps.Brackets.{closed_at}
 use Rattle.cm_inline.specs.steps.Depths.{items_depth}
-use Rattle.cm_inline.specs.steps.Reads.{Stands, atom_in, item_for, IsAtom, IsTextTo, ahead, text_items}
+use Rattle.cm_inline.specs.steps.Reads.{Stands, item_for, IsAtom, IsTextTo, ahead, text_items}
 use Rattle.cm_inline.proofs.lemmas.DeeperLemmas.{emphasis-deeper, after-deeper}
 use Rattle.cm_inline.proofs.lemmas.PairDepthLemmas.{reverse-depth}
 use Rattle.cm_inline.proofs.lemmas.SliceLemmas.{slice-front, before-later, before-one}
@@ -44,10 +36,7 @@ step-on rules defined source at end items within further rest =
     let before = reverse (take at source) in
     let taken = slice_range source (at + 1) end in
     let behind : drop (at + 1) source ≡ taken ++ drop end source = slice-front source (at + 1) end (omega (arith, further)) in
-    ap (λ t. items_after rules defined zero before t items) (drop_more source at 0 within ∙ ap (λ t. b ∷ t) behind)
-    ∙ reading_goes_on rules defined before b taken (drop end source) items (ap (λ t. (item_step rules defined before b t items).rest) (sym behind) ∙ rest)
-    ∙ ap (λ t. items_after rules defined zero (reverse taken ++ b ∷ before) (drop end source) (item_step rules defined before b t items).items) (sym behind)
-    ∙ ap (λ p. items_after rules defined zero p (drop end source) (step_at rules defined source at items).items) (before-one source at end further within)
+    grind (arith, nat_tests, drop_more, reading_goes_on, before-one)
 
 pub ahead-step : (rules : Rules) (defined : Defined) (source : List ℕ) (so_far more : List pairing.Item) (at end : ℕ) → at < length source → at < end
     → step_at rules defined source at (reverse so_far) ≡ record { items = reverse more; rest = drop end source }
@@ -61,34 +50,20 @@ ahead-step rules defined source so_far more at end within further gives =
 -- an atom that puts one item
 pub adds-item : (rules : Rules) (defined : Defined) (items : List pairing.Item) (a : Atom) (rest : List ℕ) (i : pairing.Item) → item_for a rest ≡ Some i → add_atom rules defined items a rest ≡ with_item items i rest
 unfolding add_atom
-adds-item rules defined items (Plain text) rest i e = ap (λ i. with_item items i rest) (cc e)
-adds-item rules defined items (Whole inline) rest i e = ap (λ i. with_item items i rest) (cc e)
-adds-item rules defined items (Delimiter run) rest i e = ap (λ i. with_item items i rest) (cc e)
-adds-item rules defined items (OpenBracket image) rest i e = ap (λ i. with_item items i rest) (cc e)
-adds-item rules defined items CloseBracket rest i e = absurd (cc e)
+adds-item rules defined items a rest i e = grind (arith, nat_tests)
 
 pub ahead-atom : (rules : Rules) (defined : Defined) (source : List ℕ) (so_far : List pairing.Item) (at : ℕ) (item : pairing.Item) (end : ℕ) → at < length source → IsAtom rules source at item end
     → ahead rules defined source (so_far ++ item ∷ []) end ≡ ahead rules defined source so_far at
 unfolding item_step
-ahead-atom rules defined source so_far at item end within is =
-    let items = reverse so_far in
-    let a = atom_in rules source at in
-    ahead-step rules defined source so_far (so_far ++ item ∷ []) at end within is.further (
-    adds-item rules defined items a.atom a.rest item is.item_is
-    ∙ ap (λ t. with_item items item t) is.rest
-    ∙ ap (λ t. record { items = t; rest = drop end source }) (sym (reverse-append so_far (item ∷ [])))
-    )
+ahead-atom rules defined source so_far at item end within is = grind (arith, nat_tests, ahead-step, adds-item, reverse-append)
 
 pub bracket-at : (rules : Rules) (defined : Defined) (source : List ℕ) (so_far : List pairing.Item) (at : ℕ) → Stands source at 93 → step_at rules defined source at (reverse so_far) ≡ closed_at rules defined source so_far at
-bracket-at rules defined source so_far at stands =
-    ap (λ b. item_step rules defined (reverse (take at source)) b (drop (at + 1) source) (reverse so_far)) stands.byte
-    ∙ bracket_step rules defined (reverse (take at source)) (drop (at + 1) source) (reverse so_far)
+bracket-at rules defined source so_far at stands = grind (arith, nat_tests, bracket_step)
 
 pub ahead-bracket : (rules : Rules) (defined : Defined) (source : List ℕ) (so_far more : List pairing.Item) (at end : ℕ) → Stands source at 93 → at < end
     → closed_at rules defined source so_far at ≡ record { items = reverse more; rest = drop end source }
     → ahead rules defined source more end ≡ ahead rules defined source so_far at
-ahead-bracket rules defined source so_far more at end stands further closed =
-    ahead-step rules defined source so_far more at end stands.within further (bracket-at rules defined source so_far at stands ∙ closed)
+ahead-bracket rules defined source so_far more at end stands further closed = search (ahead-step, bracket-at)
 
 -- items with one more, in pieces
 pieces-more : (source : List ℕ) (so_far : List pairing.Item) (item : pairing.Item) → in_pieces (so_far ++ item ∷ []) ≡ in_pieces so_far ++ pieces_of item
@@ -101,14 +76,7 @@ pieces-pieces (b ∷ bs) = ap (λ t. pairing.Characters (b ∷ []) ∷ t) (piece
 
 pub text-pieces : (source : List ℕ) (so_far : List pairing.Item) (at end : ℕ) → let text = slice_range source at end in
     in_pieces (reverse (reverse (one_by_one text) ++ reverse so_far)) ≡ in_pieces (reverse (reverse (so_far ++ pairing.Characters (slice_range source at end) ∷ [])))
-text-pieces source so_far at end =
-    let text = one_by_one (slice_range source at end) in
-    let items = so_far in
-    ap in_pieces (reverse-append (reverse text) (reverse items) ∙ ap (λ t. t ++ reverse (reverse text)) (reverse-reverse items) ∙ ap (λ t. items ++ t) (reverse-reverse text))
-    ∙ flat_map-append pieces_of items text
-    ∙ ap (λ t. in_pieces items ++ t) (pieces-pieces (slice_range source at end))
-    ∙ sym (pieces-more source so_far (pairing.Characters (slice_range source at end)))
-    ∙ ap in_pieces (sym (reverse-reverse (so_far ++ pairing.Characters (slice_range source at end) ∷ [])))
+text-pieces source so_far at end = search (rules, reverse-append, reverse-reverse, flat_map-append, pieces-pieces, pieces-more)
 
 text-on : (rules : Rules) (defined : Defined) (source : List ℕ) (so_far : List pairing.Item) (at end : ℕ) → IsTextTo source at end
     → ahead rules defined source (so_far ++ pairing.Characters (slice_range source at end) ∷ []) end ≡ ahead rules defined source so_far at
@@ -130,13 +98,7 @@ nat_lt-false a b e = grind (arith, nat_tests, e)
 
 pub ahead-text : (rules : Rules) (defined : Defined) (source : List ℕ) (so_far : List pairing.Item) (at end : ℕ) → IsTextTo source at end
     → ahead rules defined source (so_far ++ text_items source at end) end ≡ ahead rules defined source so_far at
-ahead-text rules defined source so_far at end is = go (nat_lt at end) refl
-  where
-    go : (some : Bool) → nat_lt at end ≡ some → ahead rules defined source (so_far ++ (if some then pairing.Characters (slice_range source at end) ∷ [] else [])) end ≡ ahead rules defined source so_far at
-    go true e = text-on rules defined source so_far at end is
-    go false e =
-        let same : end ≡ at = omega (arith, is.low, nat_lt-false at end e) in
-        ap (λ t. ahead rules defined source t end) (append-nil so_far) ∙ ap (ahead rules defined source so_far) same
+ahead-text rules defined source so_far at end is = grind (arith, nat_tests, text-on, nat_lt-false, append-nil)
 
 -- at the start and at the end of a source
 pub ahead-start : (rules : Rules) (defined : Defined) (source : List ℕ) → ahead rules defined source [] zero ≡ in_pieces (inlines.items_of rules defined source)
@@ -145,9 +107,7 @@ ahead-start rules defined source = refl
 
 pub ahead-end : (rules : Rules) (defined : Defined) (source : List ℕ) (so_far : List pairing.Item) (at : ℕ) → length source ≤ at → ahead rules defined source so_far at ≡ in_pieces so_far
 unfolding items_after
-ahead-end rules defined source so_far at past =
-    ap (λ t. in_pieces (reverse (items_after rules defined zero (reverse (take at source)) t (reverse so_far)))) (drop_all at source past)
-    ∙ ap in_pieces (reverse-reverse so_far)
+ahead-end rules defined source so_far at past = search (drop_all, reverse-reverse)
 
 -- the inlines of items that are a source's, in pieces
 pub inlines-are : (rules : Rules) (defined : Defined) (source : List ℕ) (items : List pairing.Item) → in_pieces items ≡ in_pieces (inlines.items_of rules defined source) → emphasis_of items ≡ inlines_of rules defined source
@@ -175,33 +135,18 @@ closed-deeper rules defined source so_far at limit stands deep =
 pub nests : (rules : Rules) (defined : Defined) (limit : ℕ) (source : List ℕ) (items : List pairing.Item) → in_pieces items ≡ in_pieces (inlines.items_of rules defined source) → limit < inlines_depth (emphasis_of items)
     → nests_past rules defined limit source ≡ true
 unfolding depth_of_leaf
-nests rules defined limit source items same deep =
-    let whole : inlines_depth (emphasis_of items) ≡ depth_of_leaf rules defined source = ap inlines_depth (inlines-are rules defined source items same) in
-    above limit (depth_of_leaf rules defined source) (omega (arith, deep, whole))
-  where
-    above : (a b : ℕ) → a < b → nat_lt a b ≡ true
-    above a b h = grind (arith, nat_tests, h)
+nests rules defined limit source items same deep = grind (arith, nat_tests, inlines-are)
 
 pub nests-ahead : (rules : Rules) (defined : Defined) (limit : ℕ) (source : List ℕ) (items : List pairing.Item) → items ≡ in_pieces (inlines.items_of rules defined source) → limit < inlines_depth (emphasis_of items)
     → nests_past rules defined limit source ≡ true
-nests-ahead rules defined limit source items same deep =
-    let whole = inlines.items_of rules defined source in
-    let depth : inlines_depth (emphasis_of items) ≡ inlines_depth (emphasis_of whole) = ap (λ t. inlines_depth (emphasis_of t)) same ∙ ap inlines_depth (texts_in_pieces whole) in
-    nests rules defined limit source whole refl (omega (arith, deep, depth))
+nests-ahead rules defined limit source items same deep = grind (arith, nat_tests, texts_in_pieces, nests)
 
 -- a fault of the reading
 pub refused : (told : InlineFault) (rules : Rules) (targets : Targets) (limit : ℕ) (source : List ℕ) → (told ≡ InlinesTooDeep → nests_past rules (defined_in targets) limit source ≡ true)
     → (told ≡ SourceTooLong → 2 ^ 32 ≤ length source) → Refused told rules targets limit source
-refused InlinesTooDeep rules targets limit source deep long = deep refl
-refused NoMemory rules targets limit source deep long = tt
-refused SourceTooLong rules targets limit source deep long = long refl
+refused told rules targets limit source deep long = grind (arith, nat_tests)
 
 pub within-limit : (rules : Rules) (defined : Defined) (limit : ℕ) (source : List ℕ) (items : List pairing.Item) → in_pieces items ≡ in_pieces (inlines.items_of rules defined source) → inlines_depth (emphasis_of items) ≤ limit
     → nests_past rules defined limit source ≡ false
 unfolding depth_of_leaf
-within-limit rules defined limit source items same low =
-    let whole : inlines_depth (emphasis_of items) ≡ depth_of_leaf rules defined source = ap inlines_depth (inlines-are rules defined source items same) in
-    not-above limit (depth_of_leaf rules defined source) (omega (arith, low, whole))
-  where
-    not-above : (a b : ℕ) → b ≤ a → nat_lt a b ≡ false
-    not-above a b h = grind (arith, nat_tests, h)
+within-limit rules defined limit source items same low = grind (arith, nat_tests, inlines-are)

@@ -1,6 +1,4 @@
-use Rattle.std.proofs.Common.{◌<◌, ◌++◌, length, sym, ap, subst, ◌∙◌, arith}
-use Rattle.cm_html.specs.Escape.{escape}
-use Rattle.cm_scan.specs.spans.CodeSpans.{one_line}
+use Rattle.cm_inline.proofs.lemmas.Words.{◌<◌, ◌++◌, length, sym, ap, subst, ◌∙◌, arith, escape, one_line}
 use Rattle.cm_inline.specs.steps.Writing.{IsMarkIn}
 use Rattle.cm_inline.proofs.lemmas.LaidLemmas.{settled-mark}
 use Rattle.cm_inline.proofs.lemmas.TextWaitLemmas.{mark-among, alternative-first, alternative-between, alternative-next, alternative-end, alternative-ends}
@@ -27,14 +25,6 @@ returns-then-is_end-clause-html c = λ targets image.
     alternative-end c.args.source.now targets reader c.args.html.now c.loop-at.html _ c.args.start c.args.link c.loop-at.from at _ low (mark-among reader c.as_slice-marks.result.now at _ c.as_slice-marks.ensures.value low)
     (c.loop-at.invariant targets image) (c.in_ok-push_one_line.ensures ∙ ap (λ t. c.loop-at.html ++ escape (one_line t)) c.part.ensures)
     (sym c.if-is_end.ensures)
-
-pub push_mark-requires : goal.push_mark-requires
-push_mark-requires c =
-    let reader = c.args.reader.now in
-    let at = c.loop-at.at in
-    let low : at < length reader.marks.items = omega (arith, c.loop-at-test.true, ap length c.as_slice-marks.ensures.value) in
-    let asked = c.requires in
-    (asked.0, subst (IsMarkIn c.args.source.now asked.0 reader) (sym (mark-among reader c.as_slice-marks.result.now at _ c.as_slice-marks.ensures.value low)) (settled-mark _ c.args.source.now asked.0 reader at low asked.1.settled))
 
 pub loop-at-preserved : goal.loop-at-preserved
 loop-at-preserved c = λ targets image.

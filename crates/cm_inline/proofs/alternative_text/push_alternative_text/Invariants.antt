@@ -1,4 +1,4 @@
-use Rattle.cm_tree.specs.Definitions.{Targets}
+use Rattle.cm_inline.proofs.lemmas.Words.{Targets}
 use Rattle.cm_inline.specs.steps.Writing.{IsImageAt, IsWrittenTo}
 use Rattle.cm_inline.proofs.alternative_text.push_alternative_text.Given as goal
 

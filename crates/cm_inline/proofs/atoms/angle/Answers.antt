@@ -1,7 +1,5 @@
-use Rattle.std.proofs.Common.{◌≤◌, [], refl, sym, subst, drop, ◌∙◌, arith}
-use Rattle.cm_scan.specs.inlines.Atoms.{link_of}
+use Rattle.cm_inline.proofs.lemmas.Words.{◌≤◌, [], refl, sym, subst, drop, ◌∙◌, arith, link_of, Finished, rules}
 use Rattle.cm_scan.specs.Scanned.{autolink_with}
-use Rattle.cm_scan.specs.inlines.Pairing.{Finished}
 use Rattle.cm_tree.specs.declared.tree.Inline.TheVariants as inlines
 use Rattle.cm_inline.specs.steps.Reads.{IsAtom}
 use Rattle.cm_inline.proofs.lemmas.AtomLemmas.{link-is, html-is, angle-is-text}

@@ -1,9 +1,6 @@
-use Rattle.std.proofs.Common.{◌≡◌, ◌+◌, ◌-◌, None, sym, subst, drop, arith, ap, ◌∙◌}
+use Rattle.cm_inline.proofs.lemmas.Words.{◌≡◌, ◌+◌, ◌-◌, None, sym, subst, drop, arith, ap, ◌∙◌, one_line, stripped, Finished, run_length, rules}
 use Rattle.cm_tree.specs.declared.tree.Inline.TheVariants as inlines
-use Rattle.cm_scan.specs.spans.CodeSpans.{one_line, stripped}
-use Rattle.cm_scan.specs.inlines.Pairing.{Finished}
 use Rattle.cm_inline.proofs.lemmas.StandaloneLemmas.{span-placed}
-use Rattle.cm_scan.specs.Words.{run_length}
 use Rattle.cm_scan.proofs.lemmas.spans.BacktickStrings.{span-content}
 use Rattle.cm_inline.specs.steps.Reads.{IsAtom}
 use Rattle.cm_inline.proofs.lemmas.AtomLemmas.{code-span-is, backticks-are}

@@ -1,4 +1,4 @@
-use Rattle.std.proofs.Common.{◌+◌, sym, ◌∙◌}
+use Rattle.cm_inline.proofs.lemmas.Words.{◌+◌, sym, ◌∙◌}
 use Rattle.cm_inline.proofs.lemmas.AtomLemmas.{image-is, bang-is-text}
 use Rattle.cm_inline.proofs.lemmas.LinkLemmas.{next-of}
 use Rattle.cm_inline.proofs.atoms.exclamation_mark.Goals as goal

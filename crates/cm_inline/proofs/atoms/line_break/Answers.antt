@@ -1,8 +1,6 @@
-use Rattle.std.proofs.Common.{◌≡◌, ◌+◌, ◌-◌, List, ℕ, Bool, true, false, refl, sym, subst, ◌∙◌, ap}
-use Rattle.std.specs.Prelude.{nat_le, if◌then◌else◌}
+use Rattle.cm_inline.proofs.lemmas.Words.{◌≡◌, ◌+◌, ◌-◌, List, ℕ, Bool, true, false, refl, sym, subst, ◌∙◌, ap, if◌then◌else◌, Finished, Kind, rules}
+use Rattle.std.specs.Prelude.{nat_le}
 use Rattle.cm_tree.specs.declared.tree.Inline.TheVariants as inlines
-use Rattle.cm_scan.specs.inlines.Pairing.{Finished}
-use Rattle.cm_inline.specs.declared.marks.Kind.{Kind}
 use Rattle.cm_inline.specs.declared.marks.Kind.TheVariants.{Soft, Hard}
 use Rattle.cm_inline.specs.steps.Reads.{IsAtom, inline_in, IsInline}
 use Rattle.cm_inline.proofs.lemmas.AtomLemmas.{break-is, space-is-text}

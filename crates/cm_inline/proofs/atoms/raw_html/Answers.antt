@@ -1,5 +1,4 @@
-use Rattle.std.proofs.Common.{◌≡◌, ◌∙◌, false, sym, ap, drop}
-use Rattle.cm_scan.specs.Scanned.{whole_of}
+use Rattle.cm_inline.proofs.lemmas.Words.{◌≡◌, ◌∙◌, false, sym, ap, drop, whole_of}
 use Rattle.cm_scan.proofs.lemmas.spans.RawHtmlGoesOn.{raw-off}
 use Rattle.cm_inline.proofs.lemmas.MissingEndsLemmas.{no-raw-html}
 use Rattle.cm_inline.proofs.atoms.raw_html.Goals as goal

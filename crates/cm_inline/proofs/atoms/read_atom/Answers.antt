@@ -1,6 +1,5 @@
-use Rattle.std.proofs.Common.{◌≡◌, ℕ, List, get_or, sym, ap, subst, ◌∙◌, arith}
+use Rattle.cm_inline.proofs.lemmas.Words.{◌≡◌, ℕ, List, get_or, sym, ap, subst, ◌∙◌, rules}
 use Rattle.cm_inline.specs.declared.atoms.Atom.{Atom}
-use Rattle.cm_scan.specs.inlines.Atoms.{is_markup}
 use Rattle.cm_inline.specs.steps.Reads.{Stands, Begins}
 use Rattle.cm_inline.proofs.lemmas.AtomLemmas.{feed-is, opener-is, lone-byte}
 use Rattle.cm_inline.proofs.atoms.read_atom.Goals.{in-96+in_ok-read-in-96, in-60, in-92, in-38, in-10, in-32, in-33, in-91, in-42, in-95, in-126, in_default}
@@ -35,9 +34,4 @@ put-requires-clause-begins c = elim c.match-as_bytes-at.branch [
     here b is = record { short = c.requires.short; within = c.requires.within; boundary = c.requires.boundary; byte = ap (λ t. get_or t at 0) (sym c.as_bytes.ensures.value) ∙ is }
 
 pub byte-read-requires-clause-lone : goal.byte-read-requires-clause-lone
-byte-read-requires-clause-lone c =
-    let b = get_or c.as_bytes.result.now c.args.at 0 in
-    let same : get_or c.args.source.now c.args.at 0 ≡ b = ap (λ t. get_or t c.args.at 0) (sym c.as_bytes.ensures.value) in
-    ap is_markup same
-    ∙ lone-byte b (λ e. absurd (omega (arith, e))) (λ e. absurd (omega (arith, e))) (λ e. absurd (omega (arith, e))) (λ e. absurd (omega (arith, e))) (λ e. absurd (omega (arith, e))) (λ e. absurd (omega (arith, e)))
-    (λ e. absurd (omega (arith, e))) (λ e. absurd (omega (arith, e))) (λ e. c.requires.other (same ∙ e)) (λ e. absurd (omega (arith, e))) (λ e. absurd (omega (arith, e))) (λ e. absurd (omega (arith, e)))
+byte-read-requires-clause-lone c = search (rules, lone-byte)

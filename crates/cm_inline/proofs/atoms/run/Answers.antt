@@ -1,15 +1,11 @@
-use Rattle.std.proofs.Common.{◌<◌, ◌+◌, drop, arith, sym, ap, ◌∙◌}
-use Rattle.cm_scan.specs.Words.{run_length, after_run}
-use Rattle.cm_inline.specs.declared.delimiter_runs.Marker.{Marker}
-use Rattle.cm_inline.specs.declared.delimiter_runs.Marker.TheVariants.{Star, Underscore, Tilde}
+use Rattle.cm_inline.proofs.lemmas.Words.{◌<◌, ◌+◌, drop, arith, sym, ap, ◌∙◌, run_length, after_run, Marker, Star, rules}
 use Rattle.cm_inline.specs.steps.Runs.{byte_of}
 use Rattle.cm_inline.proofs.lemmas.AtomLemmas.{marker-text-is, marker-run-is}
 use Rattle.cm_inline.proofs.atoms.run.Goals as goal
 
 small : (m : Marker) → byte_of m < 128
 small Star = omega arith
-small Underscore = omega arith
-small Tilde = omega arith
+small _ = omega arith
 
 pub returns-then-not-is_run : goal.returns-then-not-is_run
 returns-then-not-is_run c =

@@ -1,4 +1,4 @@
-use Rattle.std.proofs.Common.{arith}
+use Rattle.cm_inline.proofs.lemmas.Words.{arith}
 use Rattle.std.proofs.lemmas.Grind.{common_steps}
 use Rattle.cm_inline.proofs.lemmas.CodeLemmas.{line-feed, line-whole}
 use Rattle.cm_inline.proofs.code.one_line.Goals as goal

@@ -1,7 +1,5 @@
-use Rattle.std.proofs.Common.{◌≡◌, ◌++◌, length, string_bytes}
-use denote.Text.{Utf8}
-use denote.Shadow.{shadow}
-use Rattle.cm_scan.specs.spans.CodeSpans.{one_line}
+use Rattle.cm_inline.proofs.lemmas.Words.{◌≡◌, ◌++◌, length, Utf8, shadow, one_line}
+use Rattle.std.proofs.Common.{string_bytes}
 use Rattle.cm_inline.proofs.code.one_line.Given as goal
 
 -- what was made, and what the rest gives, come to the whole

@@ -1,7 +1,4 @@
-use Rattle.std.proofs.Common.{◌<◌, ◌≤◌, ◌++◌, length, sym, ap, ◌∙◌, arith}
-use Rattle.std.specs.List.{slice_range}
-use Rattle.cm_inline.specs.declared.marks.Mark.{Mark}
-use Rattle.cm_inline.specs.steps.Writing.{is_text}
+use Rattle.cm_inline.proofs.lemmas.Words.{◌<◌, ◌≤◌, ◌++◌, length, ap, ◌∙◌, arith, slice_range, Mark, nat_tests}
 use Rattle.cm_inline.proofs.lemmas.HtmlLemmas.{on-ok}
 use Rattle.cm_inline.proofs.lemmas.TextWaitLemmas.{mark-among, waits-first, waits-text, waits-mode, waits-on, waits-last}
 use Rattle.cm_inline.proofs.html.push_marks.Goals as goal
@@ -10,12 +7,7 @@ pub loop-next-init : goal.loop-next-init
 loop-next-init c = waits-first c.args.source.now c.args.definitions.now c.args.reader.now c.args.html.now c.requires
 
 pub loop-next-preserved-then-is_text : goal.loop-next-preserved-then-is_text
-loop-next-preserved-then-is_text c =
-    let reader = c.args.reader.now in
-    let next = c.loop-next.next in
-    let low : next.mark < length reader.marks.items = omega (arith, c.loop-next-test.true, ap length c.as_slice-marks.ensures.value) in
-    let is = mark-among reader c.as_slice-marks.result.now next.mark _ c.as_slice-marks.ensures.value low in
-    waits-text c.args.source.now c.args.definitions.now reader c.args.html.now c.loop-next.html next low c.requires c.loop-next.invariant (ap (λ (m : Mark). is_text reader.runs.runs.items m.kind) (sym is) ∙ sym c.if-is_text.ensures)
+loop-next-preserved-then-is_text c = grind (arith, nat_tests, mark-among, waits-text)
 
 pub push_mark-requires-clause-ends : goal.push_mark-requires-clause-ends
 push_mark-requires-clause-ends c =
@@ -27,13 +19,7 @@ push_mark-requires-clause-ends c =
     (c.in_ok-push_text.ensures ∙ ap (λ (m : Mark). c.loop-next.html ++ slice_range c.args.source.now next.from m.at) is)
 
 pub loop-next-preserved : goal.loop-next-preserved
-loop-next-preserved c =
-    let reader = c.args.reader.now in
-    let next = c.loop-next.next in
-    let low : next.mark < length reader.marks.items = omega (arith, c.loop-next-test.true, ap length c.as_slice-marks.ensures.value) in
-    let is = mark-among reader c.as_slice-marks.result.now next.mark _ c.as_slice-marks.ensures.value low in
-    waits-on c.args.source.now c.args.definitions.now reader c.args.html.now c.loop-next.html _ _ next c.in_ok-next.next low c.loop-next.invariant
-    (c.in_ok-push_text.ensures ∙ ap (λ (m : Mark). c.loop-next.html ++ slice_range c.args.source.now next.from m.at) is) c.in_ok-next.ensures.html
+loop-next-preserved c = grind (arith, nat_tests, mark-among, waits-on)
 
 pub returns : goal.returns
 returns c =

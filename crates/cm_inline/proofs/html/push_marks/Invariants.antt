@@ -1,4 +1,4 @@
-use Rattle.std.proofs.Common.{length, ◌-◌}
+use Rattle.cm_inline.proofs.lemmas.Words.{length, ◌-◌}
 use Rattle.cm_inline.specs.steps.Writing.{TextWaits}
 use Rattle.cm_inline.proofs.html.push_marks.Given as goal
 

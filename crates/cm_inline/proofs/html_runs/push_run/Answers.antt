@@ -1,5 +1,4 @@
-use Rattle.std.proofs.Common.{◌≡◌, length, ap, subst, arith}
-use Rattle.std.proofs.lemmas.List.{get_or_read}
+use Rattle.cm_inline.proofs.lemmas.Words.{◌≡◌, subst, get_or_read, rules}
 use Rattle.cm_inline.specs.steps.pairing.Parts.{run_events}
 use Rattle.cm_inline.specs.steps.pairing.States.{no_run, run_at}
 use Rattle.cm_inline.specs.steps.pairing.Readings.{Tags}
@@ -10,16 +9,10 @@ use Rattle.cm_inline.proofs.lemmas.RunLemmas.{run-known, run-written}
 use Rattle.cm_inline.proofs.html_runs.push_run.Goals as goal
 
 pub push_ends-requires : goal.push_ends-requires
-push_ends-requires c =
-    let runs = c.args.runs.now in
-    let known = run-known runs.runs.items runs.pairs.items c.args.number c.index-run.result.now c.requires.number c.index-run.ensures c.requires.chained in
-    omega (arith, known.to, ap length c.as_slice.ensures.value)
+push_ends-requires c = search (rules, run-known)
 
 pub push_starts-requires-clause-opened : goal.push_starts-requires-clause-opened
-push_starts-requires-clause-opened c =
-    let runs = c.args.runs.now in
-    let known = run-known runs.runs.items runs.pairs.items c.args.number c.index-run.result.now c.requires.number c.index-run.ensures c.requires.chained in
-    omega (arith, known.opened, ap length c.as_slice-2.ensures.value)
+push_starts-requires-clause-opened c = search (rules, run-known)
 
 pub returns : goal.returns
 returns c =

@@ -1,17 +1,11 @@
-use Rattle.std.proofs.Common.{ap, ◌∙◌, arith}
+use Rattle.cm_inline.proofs.lemmas.Words.{ap, ◌∙◌, rules}
 use Rattle.cm_inline.specs.steps.pairing.Parts.{starts}
 use Rattle.cm_inline.specs.steps.Runs.{pairs_in}
 use Rattle.cm_inline.proofs.lemmas.TagLemmas.{starts-next, starts-none, start-written, none-written}
 use Rattle.cm_inline.proofs.html_runs.push_starts.Goals as goal
 
 pub loop-next-preserved : goal.loop-next-preserved
-loop-next-preserved c =
-    let pairs = c.args.pairs.now in
-    let next = starts-next pairs c.loop-next.next _ c.loop-next-test.true c.loop-next.invariant.within c.requires.chained in
-    record {
-      within = omega (arith, next.before, c.loop-next.invariant.within);
-      same = start-written c.loop-next.html _ _ _ _ _ (c.in_ok-push_emphasis_start.ensures) next.is c.loop-next.invariant.same;
-    }
+loop-next-preserved c = search (rules, starts-next, start-written)
 
 pub loop-next-smaller : goal.loop-next-smaller
 loop-next-smaller c = (starts-next c.args.pairs.now c.loop-next.next _ c.loop-next-test.true c.loop-next.invariant.within c.requires.chained).before

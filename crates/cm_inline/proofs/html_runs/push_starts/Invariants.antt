@@ -1,4 +1,4 @@
-use Rattle.std.proofs.Common.{◌≡◌, ◌≤◌, length}
+use Rattle.cm_inline.proofs.lemmas.Words.{◌≡◌, ◌≤◌, length}
 use Rattle.cm_inline.specs.steps.pairing.Parts.{starts}
 use Rattle.cm_inline.specs.steps.pairing.Readings.{Tags, page, write_all}
 use Rattle.cm_inline.specs.steps.Runs.{pairs_in}

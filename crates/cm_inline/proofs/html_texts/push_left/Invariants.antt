@@ -1,4 +1,4 @@
-use Rattle.std.proofs.Common.{◌≡◌, ◌++◌, ◌-◌, replicate}
+use Rattle.cm_inline.proofs.lemmas.Words.{◌≡◌, ◌++◌, ◌-◌, replicate}
 use Rattle.cm_inline.specs.steps.Runs.{byte_of}
 use Rattle.cm_inline.proofs.html_texts.push_left.Given as goal
 

@@ -1,8 +1,4 @@
-use Rattle.std.proofs.Common.{◌≡◌, ◌++◌, length}
-use denote.Text.{Utf8}
-use denote.Shadow.{shadow}
-use Rattle.cm_html.specs.Escape.{escape}
-use Rattle.cm_scan.specs.spans.CodeSpans.{one_line}
+use Rattle.cm_inline.proofs.lemmas.Words.{◌≡◌, ◌++◌, length, Utf8, shadow, escape, one_line}
 use Rattle.cm_inline.proofs.html_texts.push_one_line.Given as goal
 
 -- what was added, and what the rest adds, come to the whole

@@ -1,4 +1,4 @@
-use Rattle.std.proofs.Common.{ap, ◌∙◌}
+use Rattle.cm_inline.proofs.lemmas.Words.{ap, ◌∙◌}
 use Rattle.cm_inline.specs.steps.pairing.Events.{made_of}
 use Rattle.cm_inline.specs.steps.Building.{built_in}
 use Rattle.cm_inline.specs.steps.Marks.{link_tag}

@@ -1,19 +1,9 @@
-use Rattle.std.proofs.Common.{◌<◌, ◌≤◌, length, sym, ap, subst, ◌∙◌, arith}
+use Rattle.cm_inline.proofs.lemmas.Words.{◌<◌, ◌≤◌, length, sym, ap, ◌∙◌, arith}
 use Rattle.std.proofs.lemmas.List.{take_rest}
 use Rattle.cm_inline.specs.steps.Building.{built_in}
-use Rattle.cm_inline.specs.steps.Writing.{IsMarkIn}
-use Rattle.cm_inline.proofs.lemmas.LaidLemmas.{settled-mark}
 use Rattle.cm_inline.proofs.lemmas.SettleLemmas.{built-next, built-last}
 use Rattle.cm_inline.proofs.lemmas.TextWaitLemmas.{mark-among}
 use Rattle.cm_inline.proofs.inlines_of_marks.settle.Goals as goal
-
-pub push_mark-requires : goal.push_mark-requires
-push_mark-requires c =
-    let reader = c.args.reader.now in
-    let at = c.loop-mark.mark-index in
-    let low : at < length reader.marks.items = omega (arith, c.loop-mark-test.true, ap length c.as_slice-mark-items.ensures.value) in
-    let is = mark-among reader c.as_slice-mark-items.result.now at _ c.as_slice-mark-items.ensures.value low in
-    subst (IsMarkIn c.args.source.now c.args.definitions.now reader) (sym is) (settled-mark _ c.args.source.now c.args.definitions.now reader at low c.requires)
 
 pub loop-mark-preserved : goal.loop-mark-preserved
 loop-mark-preserved c =

@@ -1,6 +1,4 @@
-use Rattle.std.proofs.Common.{ℕ}
-use Rattle.cm_tree.specs.declared.tree.Inline.TheViews.{outs-Text, outs-Emph, outs-Strong, outs-Strike, outs-Link, outs-Image}
-use Rattle.cm_tree.specs.declared.tree.Inline.TheFolds.{fold_out-Inline}
+use Rattle.cm_inline.proofs.lemmas.Words.{ℕ, outs-Text, outs-Emph, outs-Strong, outs-Strike, outs-Link, outs-Image, fold_out-Inline}
 use Rattle.cm_inline.specs.Emphases.{emphases_step}
 use Rattle.cm_inline.proofs.laws.worked_examples.Goals as goal
 

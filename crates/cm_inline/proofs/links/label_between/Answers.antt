@@ -1,15 +1,9 @@
-use Rattle.std.proofs.Common.{◌≡◌, ◌+◌, ◌-◌, ◌<◌, length, ap, ◌∙◌, arith}
-use Rattle.cm_inline.specs.steps.Links.{target_by}
+use Rattle.cm_inline.proofs.lemmas.Words.{◌≡◌, ◌+◌, ◌-◌, ◌<◌, length, arith, rules}
 use Rattle.cm_inline.proofs.lemmas.LinkLemmas.{no-label, other-label, this-label}
 use Rattle.cm_inline.proofs.links.label_between.Goals as goal
 
 pub returns-in_err-between : goal.returns-in_err-between
-returns-in_err-between c = λ defined.
-    let source = c.args.source.now in
-    let place : c.args.after ≡ c.args.after - 1 + 1 = omega (arith, c.requires.bracket.0) in
-    let within : c.args.after - 1 < length source = omega (arith, c.requires.order, c.requires.stands.within) in
-    ap (target_by defined) c.from_residual.ensures
-    ∙ no-label source (c.args.after - 1) c.args.at defined c.args.after place within c.requires.bracket.1 c.requires.order c.requires.stands c.in_err-between.ensures.read
+returns-in_err-between c = search (rules, no-label)
 
 pub returns-then-end-at : goal.returns-then-end-at
 returns-then-end-at c = λ defined.
@@ -20,9 +14,4 @@ returns-then-end-at c = λ defined.
     c.in_ok-between.ensures.read c.in_ok-between.ensures.boundary.0 c.if-end-at.true
 
 pub returns : goal.returns
-returns c = λ defined.
-    let source = c.args.source.now in
-    let place : c.args.after ≡ c.args.after - 1 + 1 = omega (arith, c.requires.bracket.0) in
-    let within : c.args.after - 1 < length source = omega (arith, c.requires.order, c.requires.stands.within) in
-    this-label source (c.args.after - 1) c.args.at defined c.args.after c.in_ok-between.end c.in_ok-between.between.now place within c.requires.bracket.1 c.requires.order c.requires.stands
-    c.in_ok-between.ensures.read c.if-end-at.false
+returns c = search (rules, this-label)

@@ -1,6 +1,4 @@
-use Rattle.std.proofs.Common.{◌+◌, drop, refl, sym, ap}
-use Rattle.std.specs.List.{slice_range}
-use Rattle.cm_scan.specs.inlines.Brackets.{defined_in, target_between, end_if_followed}
+use Rattle.cm_inline.proofs.lemmas.Words.{◌+◌, drop, sym, ap, slice_range, defined_in, end_if_followed, rules}
 use Rattle.cm_inline.proofs.lemmas.LinkLemmas.{turned, by-full, by-between}
 use Rattle.cm_inline.proofs.links.reference_end.Goals as goal
 
@@ -17,10 +15,4 @@ returns-in-Some-clause-ends c =
     c.reference.ensures.ends
 
 pub returns-clause-ends : goal.returns-clause-ends
-returns-clause-ends c =
-    let source = c.args.leaf.source.now in
-    let defined = defined_in c.args.leaf.definitions.now in
-    let between = slice_range source c.args.after c.args.at in
-    turned c.args.leaf c.reference_between.result _ _
-    (ap (end_if_followed c.args.rules) (sym (by-between defined between (drop (c.args.at + 1) source) (target_between defined between) c.in_default.ensures.read refl)))
-    c.reference_between.ensures.ends
+returns-clause-ends c = search (rules, turned, by-between)

@@ -1,5 +1,4 @@
-use Rattle.std.proofs.Common.{◌≡◌, true, codes, drop}
-use Rattle.cm_inline.specs.declared.missing_ends.Form.TheVariants.{Comment, Declaration}
+use Rattle.cm_inline.proofs.lemmas.Words.{◌≡◌, true, codes, drop, Comment, Declaration}
 use Rattle.cm_inline.proofs.lemmas.MissingEndsLemmas.{word-begins, form-begins}
 use Rattle.cm_inline.proofs.missing_ends.form_at.Goals as goal
 

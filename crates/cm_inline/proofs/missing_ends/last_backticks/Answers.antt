@@ -1,4 +1,4 @@
-use Rattle.std.proofs.Common.{◌+◌, ◌-◌, refl, arith}
+use Rattle.cm_inline.proofs.lemmas.Words.{◌-◌, arith, rules}
 use Rattle.cm_scan.proofs.lemmas.spans.BacktickStrings.{further}
 use Rattle.cm_inline.proofs.lemmas.MissingEndsLemmas.{next-tick, no-tick, none-behind-last}
 use Rattle.cm_inline.proofs.missing_ends.last_backticks.Goals as goal
@@ -11,14 +11,7 @@ loop-plain-smaller c =
     omega (arith, more, c.after_run-at.ensures.within)
 
 pub loop-plain-preserved : goal.loop-plain-preserved
-loop-plain-preserved c =
-    let source = c.args.source.now in
-    let found = next-tick c.as_bytes.result.now source c.loop-plain.at c.in-Some.plain c.as_bytes.ensures.value c.loop-plain.invariant.within c.in-Some.ensures in
-    record {
-      none = none-behind-last c.loop-plain.last c.insert.new.self (c.after_run-at.result - (c.loop-plain.at + c.in-Some.plain)) c.after_run-at.result c.in_ok-insert.ensures.updates
-          source c.loop-plain.at c.in-Some.plain found c.after_run-at.ensures.end c.after_run-at.ensures.behind refl c.loop-plain.invariant.none;
-      within = c.after_run-at.ensures.within;
-    }
+loop-plain-preserved c = search (rules, next-tick, none-behind-last)
 
 pub returns : goal.returns
 returns c = λ count.

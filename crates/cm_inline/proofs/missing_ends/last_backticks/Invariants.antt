@@ -1,5 +1,4 @@
-use Rattle.std.proofs.Common.{◌≡◌, ℕ, ◌-◌, ◌≤◌, false, None, length, drop}
-use Rattle.cm_scan.specs.spans.CodeSpans.{up_to_run}
+use Rattle.cm_inline.proofs.lemmas.Words.{◌≡◌, ℕ, ◌-◌, ◌≤◌, false, None, length, drop, up_to_run}
 use Rattle.cm_inline.specs.steps.Missing.{after_last}
 use Rattle.cm_inline.proofs.missing_ends.last_backticks.Given as goal
 

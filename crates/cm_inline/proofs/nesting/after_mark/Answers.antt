@@ -1,12 +1,9 @@
-use Rattle.std.proofs.Common.{◌^◌, arith}
+use Rattle.cm_inline.proofs.lemmas.Words.{rules}
 use Rattle.cm_inline.proofs.lemmas.NestingLemmas.{autolink-fits, autolink-level, begin-level, end-level, flat-level}
 use Rattle.cm_inline.proofs.nesting.after_mark.Goals as goal
 
 pub overflow_add-level : goal.overflow_add-level
-overflow_add-level c =
-    let rises = c.requires.rises in
-    let fits = autolink-fits rises.0 rises.1 c.args.reader.now c.args.mark (2 ^ 64) c.args.level c.in-Autolink.is_address c.in-Autolink.is rises.2 in
-    omega (arith, fits)
+overflow_add-level c = search (rules, autolink-fits)
 
 pub returns-in-Autolink : goal.returns-in-Autolink
 returns-in-Autolink c = λ source targets. autolink-level source targets c.args.reader.now c.args.mark c.args.level c.in-Autolink.is_address c.max.result c.in-Autolink.is c.max.ensures

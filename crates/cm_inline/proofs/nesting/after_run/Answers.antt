@@ -1,6 +1,6 @@
-use Rattle.std.proofs.Common.{◌^◌, length, ap, subst, ◌∙◌, sym, arith}
+use Rattle.cm_inline.proofs.lemmas.Words.{◌^◌, subst, sym, rules}
 use Rattle.cm_inline.specs.steps.pairing.Parts.{starts}
-use Rattle.cm_inline.specs.steps.Nesting.{rise_all, CanRiseAll}
+use Rattle.cm_inline.specs.steps.Nesting.{CanRiseAll}
 use Rattle.cm_inline.specs.steps.Runs.{pairs_in}
 use Rattle.cm_inline.proofs.lemmas.NestingLemmas.{run-rises-at}
 use Rattle.cm_inline.proofs.lemmas.RunLemmas.{run-known}
@@ -18,10 +18,7 @@ end-level-requires c =
     rises.holds
 
 pub after_starts-requires-clause-opened : goal.after_starts-requires-clause-opened
-after_starts-requires-clause-opened c =
-    let runs = c.args.runs.now in
-    let known = run-known runs.runs.items runs.pairs.items c.args.number c.index-run.result.now c.requires.number c.index-run.ensures c.requires.chained in
-    omega (arith, known.opened, ap length c.as_slice.ensures.value)
+after_starts-requires-clause-opened c = search (rules, run-known)
 
 pub after_starts-requires-clause-rises : goal.after_starts-requires-clause-rises
 after_starts-requires-clause-rises c =
@@ -32,10 +29,4 @@ after_starts-requires-clause-rises c =
     (subst (λ l. CanRiseAll (2 ^ 64) l (starts (pairs_in runs.pairs.items) run.opened)) (sym c.end-level.ensures) rises.starts_rise)
 
 pub returns : goal.returns
-returns c =
-    let runs = c.args.runs.now in
-    let run = c.index-run.result.now in
-    let rises = run-rises-at (2 ^ 64) c.args.level runs.runs.items runs.pairs.items c.args.number run c.requires.number c.index-run.ensures c.requires.chained c.requires.rises in
-    c.after_starts.ensures ∙ ap (λ ps. rise_all c.end-level.result (starts (pairs_in ps) run.opened)) c.as_slice.ensures.value
-    ∙ ap (λ l. rise_all l (starts (pairs_in runs.pairs.items) run.opened)) c.end-level.ensures
-    ∙ sym rises.is
+returns c = search (rules, run-rises-at)

@@ -1,6 +1,5 @@
-use Rattle.std.proofs.Common.{◌^◌, ap, ◌∙◌, arith}
+use Rattle.cm_inline.proofs.lemmas.Words.{◌^◌, ap, ◌∙◌, arith, Pair}
 use Rattle.cm_inline.specs.declared.runs.Emphasis.TheVariants.{Emph}
-use Rattle.cm_inline.specs.declared.runs.Pair.{Pair}
 use Rattle.cm_inline.specs.steps.pairing.Parts.{starts}
 use Rattle.cm_inline.specs.steps.Runs.{pairs_in}
 use Rattle.cm_inline.proofs.lemmas.NestingLemmas.{start-rises, start-on, start-level, none-level}

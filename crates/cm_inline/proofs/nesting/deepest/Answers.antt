@@ -1,38 +1,19 @@
-use Rattle.std.proofs.Common.{◌<◌, ◌^◌, length, ap, arith}
+use Rattle.cm_inline.proofs.lemmas.Words.{◌<◌, ◌^◌, length, ap, arith}
 use Rattle.cm_inline.proofs.lemmas.MarkLemmas.{numbered}
-use Rattle.cm_inline.proofs.lemmas.NestingLemmas.{nests-fit, nests-first, nests-at, nests-next, nests-last}
+use Rattle.cm_inline.proofs.lemmas.NestingLemmas.{nests-fit, nests-at, nests-next, nests-last}
 use Rattle.cm_inline.proofs.lemmas.TextWaitLemmas.{mark-among}
 use Rattle.cm_inline.proofs.nesting.deepest.Goals as goal
 
-pub loop-mark-init : goal.loop-mark-init
-loop-mark-init c = λ lines source targets depth n. nests-first lines source targets c.args.reader.now depth n
-
-pub after_mark-level-requires-clause-high : goal.after_mark-level-requires-clause-high
-after_mark-level-requires-clause-high c =
-    let asked = c.requires in
-    (c.loop-mark.invariant asked.0 asked.1 asked.2 asked.3 asked.4).high
-
-pub after_mark-level-requires-clause-number : goal.after_mark-level-requires-clause-number
-after_mark-level-requires-clause-number c =
+pub after_mark-level-requires : goal.after_mark-level-requires
+after_mark-level-requires c =
     let reader = c.args.reader.now in
     let asked = c.requires in
     let at = c.loop-mark.mark-index in
     let low : at < length reader.marks.items = omega (arith, c.loop-mark-test.true, ap length c.as_slice-mark-items.ensures.value) in
     let is = mark-among reader c.as_slice-mark-items.result.now at _ c.as_slice-mark-items.ensures.value low in
-    numbered asked.1 asked.2 reader _
-    (nests-at asked.0 asked.1 asked.2 reader (2 ^ 64) asked.3 at c.loop-mark.level _ low is asked.4.chained (nests-fit asked.0 asked.1 asked.2 reader asked.3 asked.4) (c.loop-mark.invariant asked.0 asked.1 asked.2 asked.3 asked.4)).known
-
-pub after_mark-level-requires-clause-rises : goal.after_mark-level-requires-clause-rises
-after_mark-level-requires-clause-rises c =
-    let reader = c.args.reader.now in
-    let asked = c.requires in
-    let at = c.loop-mark.mark-index in
-    let low : at < length reader.marks.items = omega (arith, c.loop-mark-test.true, ap length c.as_slice-mark-items.ensures.value) in
-    let is = mark-among reader c.as_slice-mark-items.result.now at _ c.as_slice-mark-items.ensures.value low in (
-      asked.1,
-      asked.2,
-      (nests-at asked.0 asked.1 asked.2 reader (2 ^ 64) asked.3 at c.loop-mark.level _ low is asked.4.chained (nests-fit asked.0 asked.1 asked.2 reader asked.3 asked.4) (c.loop-mark.invariant asked.0 asked.1 asked.2 asked.3 asked.4)).can,
-    )
+    let goes = c.loop-mark.invariant asked.0 asked.1 asked.2 asked.3 asked.4 in
+    let n = nests-at asked.0 asked.1 asked.2 reader (2 ^ 64) asked.3 at c.loop-mark.level _ low is asked.4.chained (nests-fit asked.0 asked.1 asked.2 reader asked.3 asked.4) goes in
+    record { high = goes.high; number = numbered asked.1 asked.2 reader _ n.known; chained = asked.4.chained; rises = (asked.1, asked.2, n.can) }
 
 pub loop-mark-preserved : goal.loop-mark-preserved
 loop-mark-preserved c = λ lines source targets depth n.

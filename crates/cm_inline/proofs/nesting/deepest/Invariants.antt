@@ -1,5 +1,4 @@
-use Rattle.std.proofs.Common.{ℕ, Bool, List}
-use Rattle.cm_tree.specs.Definitions.{Targets}
+use Rattle.cm_inline.proofs.lemmas.Words.{ℕ, Bool, List, Targets}
 use Rattle.cm_inline.specs.steps.Nesting.{NestsTo, NestsFrom}
 use Rattle.cm_inline.proofs.nesting.deepest.Given as goal
 

@@ -1,4 +1,4 @@
-use Rattle.std.proofs.lemmas.Str.{IsCharBoundary-start}
+use Rattle.cm_inline.proofs.lemmas.Words.{IsCharBoundary-start}
 use Rattle.cm_inline.proofs.reading.first_text_end.Goals as goal
 
 pub text_end-requires : goal.text_end-requires

@@ -1,14 +1,9 @@
-use Rattle.std.proofs.Common.{◌≡◌, ◌+◌, get_or, refl, sym, ap, ◌∙◌, arith}
-use Rattle.std.proofs.lemmas.Str.{IsCharBoundary-after_ascii}
+use Rattle.cm_inline.proofs.lemmas.Words.{◌≡◌, ◌+◌, get_or, sym, ap, ◌∙◌, arith, IsCharBoundary-after_ascii, rules}
 use Rattle.cm_inline.proofs.lemmas.PlainLemmas.{text-start, text-further, feed-further, plain-further, plain-feed, all-text}
 use Rattle.cm_inline.proofs.reading.is_all_text.Goals as goal
 
 pub loop-end-init : goal.loop-end-init
-loop-end-init c = record {
-  boundary = c.requires.boundary;
-  read = text-further c.args.source.now 0 c.args.first c.requires (text-start c.args.source.now);
-  plain = plain-further c.args.source.now 0 c.args.first c.requires refl;
-}
+loop-end-init c = search (rules, text-further, text-start, plain-further)
 
 pub text_end-end-requires : goal.text_end-end-requires
 text_end-end-requires c =

@@ -1,5 +1,4 @@
-use Rattle.std.proofs.Common.{◌-◌, length}
-use Rattle.std.specs.Str.{IsCharBoundary}
+use Rattle.cm_inline.proofs.lemmas.Words.{◌-◌, length, IsCharBoundary}
 use Rattle.cm_inline.proofs.lemmas.PlainLemmas.{ReadsAsText, IsPlainTo}
 use Rattle.cm_inline.proofs.reading.is_all_text.Given as goal
 

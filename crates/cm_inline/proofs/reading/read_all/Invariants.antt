@@ -1,4 +1,4 @@
-use Rattle.std.proofs.Common.{◌≡◌, ◌-◌, length}
+use Rattle.cm_inline.proofs.lemmas.Words.{◌≡◌, ◌-◌, length}
 use Rattle.cm_inline.specs.steps.Leaves.{ReadingOf}
 use Rattle.cm_inline.specs.steps.Reads.{IsTextTo}
 use Rattle.cm_inline.proofs.reading.read_all.Given as goal

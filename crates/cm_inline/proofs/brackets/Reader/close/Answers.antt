@@ -1,11 +1,10 @@
-use Rattle.std.proofs.Common.{◌≡◌, ◌∷◌, ◌<◌, [], true, false, List, length, drop, reverse, IfSome, Err, Vec, Global, refl, sym, ap, subst, ◌∙◌, arith, append-nil}
-use Rattle.cm_inline.specs.declared.brackets.Bracket.{Bracket}
-use Rattle.cm_inline.specs.declared.brackets.Reader.{Reader}
+use Rattle.cm_inline.proofs.lemmas.Words.{◌≡◌, ◌∷◌, ◌<◌, [], true, false, List, length, drop, reverse, IfSome, Err, refl, sym, ap, subst, ◌∙◌, arith, append-nil}
+use Rattle.cm_inline.proofs.lemmas.Words.{Bracket, Reader, InlinesTooDeep, rules}
+use Rattle.std.proofs.Common.{Vec, Global}
 use Rattle.cm_inline.specs.steps.Brackets.{view_of}
 use Rattle.cm_inline.specs.steps.Links.{ends_of, IsPlaced}
 use Rattle.cm_inline.specs.steps.Marks.{target_in}
 use Rattle.cm_inline.specs.steps.Missing.{Knows}
-use Rattle.cm_inline.specs.declared.fault.InlineFault.TheVariants.{InlinesTooDeep}
 use Rattle.cm_inline.proofs.lemmas.DeeperLemmas.{same-fault}
 use Rattle.cm_inline.proofs.lemmas.RightBracketLemmas.{nothing-closes, text-closes}
 use Rattle.cm_inline.proofs.lemmas.ClosedLinkLemmas.{IsLinked, link-closes}
@@ -17,11 +16,7 @@ none [] h = refl
 none (b ∷ bs) h = absurd (cc (h (omega arith)))
 
 pub returns-in_default-clause-reading : goal.returns-in_default-clause-reading
-returns-in_default-clause-reading c =
-    let old = c.args.self.now in
-    let had : old.brackets.items ≡ [] = none old.brackets.items (λ some. c.in_default.ensures.variant.1 (omega (arith, some, old.brackets.ok))) in
-    nothing-closes c.args.rules c.args.leaf.source.now c.args.leaf.definitions.now c.args.at old (record { marks = old.marks; runs = old.runs; links = old.links; brackets = c.pop.new.self; links_end = old.links_end; lines = old.lines; ends = old.ends })
-    c.requires.stands had (sym (c.in_default.ensures.items ∙ append-nil c.pop.new.self.items) ∙ had) refl refl c.requires.reading
+returns-in_default-clause-reading c = search (rules, none, nothing-closes, append-nil)
 
 pub end_after-requires : goal.end_after-requires
 end_after-requires c =

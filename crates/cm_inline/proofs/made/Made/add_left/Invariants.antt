@@ -1,4 +1,4 @@
-use Rattle.std.proofs.Common.{◌≡◌, ◌-◌, replicate}
+use Rattle.cm_inline.proofs.lemmas.Words.{◌≡◌, ◌-◌, replicate}
 use Rattle.cm_inline.specs.steps.pairing.Events.{add_text}
 use Rattle.cm_inline.specs.steps.Building.{built_in}
 use Rattle.cm_inline.specs.steps.Runs.{byte_of}

@@ -1,4 +1,4 @@
-use Rattle.std.proofs.Common.{◌+◌}
+use Rattle.cm_inline.proofs.lemmas.Words.{◌+◌}
 use Rattle.cm_inline.specs.steps.pairing.Parts.{ends_between}
 use Rattle.cm_inline.specs.steps.Building.{built_in}
 use Rattle.cm_inline.specs.steps.Runs.{pairs_in}

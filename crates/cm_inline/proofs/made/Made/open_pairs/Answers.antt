@@ -1,4 +1,4 @@
-use Rattle.std.proofs.Common.{ap, ◌∙◌, arith}
+use Rattle.cm_inline.proofs.lemmas.Words.{ap, ◌∙◌, arith}
 use Rattle.cm_inline.specs.steps.pairing.Parts.{starts}
 use Rattle.cm_inline.specs.steps.Building.{built_in}
 use Rattle.cm_inline.specs.steps.Runs.{pairs_in}

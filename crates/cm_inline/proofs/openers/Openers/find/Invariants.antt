@@ -1,4 +1,4 @@
-use Rattle.std.proofs.Common.{◌≡◌, ◌+◌, ◌≤◌, length, take}
+use Rattle.cm_inline.proofs.lemmas.Words.{◌≡◌, ◌+◌, ◌≤◌, length, take}
 use Rattle.cm_inline.specs.steps.Openers.{entries_in, AreOpeners}
 use Rattle.cm_inline.specs.steps.Runs.{run_of}
 use Rattle.cm_inline.specs.steps.Searching.{find_opener, looks_for, from_found}

@@ -1,4 +1,5 @@
-use Rattle.std.proofs.Common.{◌-◌, vec_len, refl, ap, ◌∙◌, arith}
+use Rattle.cm_inline.proofs.lemmas.Words.{◌-◌, refl, ap, ◌∙◌, arith}
+use Rattle.std.proofs.Common.{vec_len}
 use Rattle.cm_inline.specs.steps.Openers.{Stack, leaving}
 use Rattle.cm_inline.proofs.lemmas.OpenerLemmas.{openers-take, openers-cut, leaving-some}
 use Rattle.cm_inline.proofs.openers.Openers.leave.Goals as goal

@@ -1,10 +1,6 @@
-use Rattle.std.proofs.Common.{◌≡◌, [], sym, ap, subst, ◌∙◌, arith}
-use Rattle.std.specs.Prelude.{Result, Ok, Err, IfErr}
-use Rattle.std.specs.Result.{IsErrAnd}
-use Rattle.cm_tree.specs.Depth.{inlines_depth}
-use Rattle.cm_scan.specs.inlines.Pairing.{emphasis_of}
+use Rattle.cm_inline.proofs.lemmas.Words.{◌≡◌, sym, ap, subst, ◌∙◌, arith, Result, IsErrAnd, inlines_depth, emphasis_of, InlineFault, rules}
+use Rattle.std.specs.Prelude.{Ok, Err, IfErr}
 use Rattle.cm_inline.specs.Reading.{Refused}
-use Rattle.cm_inline.specs.declared.fault.InlineFault.{InlineFault}
 use Rattle.cm_inline.specs.steps.pairing.Segments.{items_in}
 use Rattle.cm_inline.specs.steps.Brackets.{view_of}
 use Rattle.cm_inline.specs.steps.Marks.{IsSettled}
@@ -18,13 +14,7 @@ read_all-requires-clause-start c =
     let reader = c.restart.new.self in
     let e = c.restart.ensures in
     let fresh : view_of reader ≡ fresh_view c.args.lines reader.ends =
-    ap (λ x. record { lines = x; marks = reader.marks.items; runs = reader.runs.runs.items; waiting = reader.runs.waiting.items; pairs = reader.runs.pairs.items; links = reader.links.items; links_end = reader.links_end; ends = reader.ends }) e.lines
-    ∙ ap (λ x. record { lines = c.args.lines; marks = x; runs = reader.runs.runs.items; waiting = reader.runs.waiting.items; pairs = reader.runs.pairs.items; links = reader.links.items; links_end = reader.links_end; ends = reader.ends }) e.marks
-    ∙ ap (λ x. record { lines = c.args.lines; marks = []; runs = x; waiting = reader.runs.waiting.items; pairs = reader.runs.pairs.items; links = reader.links.items; links_end = reader.links_end; ends = reader.ends }) e.runs
-    ∙ ap (λ x. record { lines = c.args.lines; marks = []; runs = []; waiting = x; pairs = reader.runs.pairs.items; links = reader.links.items; links_end = reader.links_end; ends = reader.ends }) e.waiting
-    ∙ ap (λ x. record { lines = c.args.lines; marks = []; runs = []; waiting = []; pairs = x; links = reader.links.items; links_end = reader.links_end; ends = reader.ends }) e.pairs
-    ∙ ap (λ x. record { lines = c.args.lines; marks = []; runs = []; waiting = []; pairs = []; links = x; links_end = reader.links_end; ends = reader.ends }) e.links
-    ∙ ap (λ x. record { lines = c.args.lines; marks = []; runs = []; waiting = []; pairs = []; links = []; links_end = x; ends = reader.ends }) e.links_end in
+    λ i. record { lines = e.lines i; marks = e.marks i; runs = e.runs i; waiting = e.waiting i; pairs = e.pairs i; links = e.links i; links_end = e.links_end i; ends = reader.ends } in
     nothing-read c.args.rules c.args.source.now c.args.definitions.now reader c.args.lines (omega (arith, c.if-source.false)) c.utf8.source fresh e.brackets e.looks e.knows
 
 pub pair_from-requires-clause-pass : goal.pair_from-requires-clause-pass

@@ -1,11 +1,8 @@
-use Rattle.std.proofs.Common.{refl, sym, ap, ◌∙◌, arith}
-use Rattle.std.proofs.lemmas.List.{length-map}
-use Rattle.cm_inline.specs.declared.delimiter_runs.DelimiterRun.{DelimiterRun}
+use Rattle.cm_inline.proofs.lemmas.Words.{refl, sym, ap, ◌∙◌, arith, length-map, DelimiterRun, not-true}
 use Rattle.cm_inline.specs.steps.pairing.States.{state_of}
 use Rattle.cm_inline.specs.steps.Runs.{run_of, pair_in, paired_run}
 use Rattle.cm_inline.proofs.lemmas.ClosingLemmas.{put-other}
 use Rattle.cm_inline.proofs.lemmas.CloserLoopLemmas.{put-closed}
-use Rattle.cm_inline.proofs.lemmas.NumberLemmas.{not-true}
 use Rattle.cm_inline.proofs.lemmas.StateLemmas.{steps-longer, steps-put}
 use Rattle.cm_inline.proofs.runs.Runs.close.Goals as goal
 

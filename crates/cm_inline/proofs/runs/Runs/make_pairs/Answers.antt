@@ -1,23 +1,11 @@
-use Rattle.std.proofs.Common.{◌≡◌, ◌<◌, length, refl, sym, ap, subst, ◌∙◌, arith}
-use Rattle.std.proofs.lemmas.List.{length-map}
-use Rattle.cm_scan.specs.inlines.Delimiters.{Run}
+use Rattle.cm_inline.proofs.lemmas.Words.{◌≡◌, ◌<◌, length, refl, sym, ap, subst, ◌∙◌, arith, length-map, Run}
 use Rattle.cm_inline.specs.steps.pairing.States.{state_of}
 use Rattle.cm_inline.specs.steps.Runs.{run_of, entry_of, pair_in, runs_in}
 use Rattle.cm_inline.specs.steps.Searching.{kind, IsMarked}
-use Rattle.cm_inline.proofs.lemmas.ClosingLemmas.{same-kind, closing-begins, closing-deep}
+use Rattle.cm_inline.proofs.lemmas.ClosingLemmas.{same-kind, closing-deep}
 use Rattle.cm_inline.proofs.lemmas.CloserLoopLemmas.{MadePair, made-pair, going-pairs, done-pairs, done-none, steps-search-fails}
-use Rattle.cm_inline.proofs.lemmas.StateLemmas.{steps-none, steps-pairs, few-looks, found-place, pair-long}
+use Rattle.cm_inline.proofs.lemmas.StateLemmas.{steps-pairs, few-looks, found-place, pair-long}
 use Rattle.cm_inline.proofs.runs.Runs.make_pairs.Goals as goal
-
-pub loop-closer-init : goal.loop-closer-init
-loop-closer-init c = record {
-  steps = steps-none c.args.self.now c.args.bottoms.now c.args.number c.requires.ready;
-  early = omega arith;
-  same = refl;
-  fewer = omega arith;
-  going = λ parts had comes more. closing-begins parts (state_of c.args.self.now c.args.bottoms.now c.args.number) (run_of c.args.run) had comes.holds;
-  done = λ parts had comes none. (let some = comes.some in absurd (omega (arith, some, none)));
-}
 
 pub find-requires : goal.find-requires
 find-requires c =

@@ -1,5 +1,4 @@
-use Rattle.std.proofs.Common.{◌≡◌, ◌≤◌, List, length}
-use Rattle.cm_scan.specs.inlines.Pairing.{Item}
+use Rattle.cm_inline.proofs.lemmas.Words.{◌≡◌, ◌≤◌, List, length, Item}
 use Rattle.cm_inline.specs.steps.pairing.ClosingRuns.{RunComes, CloserGoesOn, CloserDone}
 use Rattle.cm_inline.specs.steps.pairing.Parts.{Part}
 use Rattle.cm_inline.specs.steps.pairing.States.{RunSteps, state_of}

@@ -1,6 +1,4 @@
-use Rattle.std.proofs.Common.{◌≡◌, ◌+◌, ◌<◌, Err, length, drop, get_or, refl, ap, subst, ◌∙◌, arith}
-use Rattle.std.proofs.lemmas.List.{get_or_read}
-use Rattle.cm_inline.specs.declared.fault.InlineFault.TheVariants.{InlinesTooDeep}
+use Rattle.cm_inline.proofs.lemmas.Words.{◌≡◌, ◌+◌, ◌<◌, Err, length, drop, get_or, refl, ap, subst, ◌∙◌, arith, get_or_read, InlinesTooDeep}
 use Rattle.cm_inline.proofs.lemmas.DeeperLemmas.{same-fault}
 use Rattle.cm_inline.proofs.lemmas.StateLemmas.{from-zero}
 use Rattle.cm_inline.proofs.lemmas.PassLoopLemmas.{Reaching, passing-first, reaching-first, waits-at, can-step, passing-step, reaching-step, reaching-deep, passes-none, passes-all}

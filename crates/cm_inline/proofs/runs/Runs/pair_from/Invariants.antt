@@ -1,4 +1,4 @@
-use Rattle.std.proofs.Common.{List, drop}
+use Rattle.cm_inline.proofs.lemmas.Words.{List, drop}
 use Rattle.cm_inline.specs.steps.pairing.Passes.{WaitFrom}
 use Rattle.cm_inline.specs.steps.pairing.Segments.{Segment}
 use Rattle.cm_inline.proofs.lemmas.PassLoopLemmas.{Passing, Reaching}

@@ -1,14 +1,13 @@
-use Rattle.std.proofs.Common.{◌≡◌, ◌+◌, refl, sym, ap, subst, arith}
-use Rattle.std.proofs.lemmas.List.{get_or_read}
+use Rattle.cm_inline.proofs.lemmas.Words.{◌≡◌, ◌+◌, refl, sym, ap, subst, arith, get_or_read, HeldRun}
 use Rattle.cm_inline.specs.Closers.{all_kinds}
-use Rattle.cm_inline.specs.declared.runs.Run.{Run as HeldRun}
 use Rattle.cm_inline.specs.steps.pairing.ClosingRuns.{RunComes, PassGoesOn}
 use Rattle.cm_inline.specs.steps.pairing.States.{no_run, run_at, state_of}
 use Rattle.cm_inline.specs.steps.Runs.{run_of}
 use Rattle.cm_inline.proofs.lemmas.CloserLoopLemmas.{next-rest, next-waits}
-use Rattle.cm_inline.proofs.lemmas.NumberLemmas.{not-false, either-of}
+use Rattle.cm_inline.proofs.lemmas.NumberLemmas.{either-of}
 use Rattle.cm_inline.proofs.lemmas.StateLemmas.{steps-on, steps-push}
 use Rattle.cm_inline.proofs.runs.Runs.pass.Goals as goal
+use Rattle.std.proofs.lemmas.Bool.{not-false}
 
 pub returns-then-not-run-clause-steps : goal.returns-then-not-run-clause-steps
 returns-then-not-run-clause-steps c =

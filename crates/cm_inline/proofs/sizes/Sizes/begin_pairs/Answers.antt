@@ -1,6 +1,5 @@
-use Rattle.std.proofs.Common.{arith}
+use Rattle.cm_inline.proofs.lemmas.Words.{arith, Pair}
 use Rattle.cm_inline.specs.declared.runs.Emphasis.TheVariants.{Emph}
-use Rattle.cm_inline.specs.declared.runs.Pair.{Pair}
 use Rattle.cm_inline.proofs.lemmas.TagLemmas.{starts-next}
 use Rattle.cm_inline.proofs.sizes.Sizes.begin_pairs.Goals as goal
 

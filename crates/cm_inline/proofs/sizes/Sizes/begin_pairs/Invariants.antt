@@ -1,4 +1,4 @@
-use Rattle.std.proofs.Common.{◌≤◌, length}
+use Rattle.cm_inline.proofs.lemmas.Words.{◌≤◌, length}
 use Rattle.cm_inline.proofs.sizes.Sizes.begin_pairs.Given as goal
 
 abbrev pub invariant-loop-next : goal.invariant-loop-next

@@ -1,4 +1,4 @@
-use Rattle.std.proofs.Common.{◌<◌, length, sym, ap, subst, arith}
+use Rattle.cm_inline.proofs.lemmas.Words.{◌<◌, length, sym, ap, subst, arith}
 use Rattle.cm_inline.specs.steps.Writing.{IsMarkIn}
 use Rattle.cm_inline.proofs.lemmas.LaidLemmas.{settled-mark}
 use Rattle.cm_inline.proofs.lemmas.MarkLemmas.{numbered}

@@ -1,4 +1,4 @@
-use Rattle.std.proofs.Common.{arith}
+use Rattle.cm_inline.proofs.lemmas.Words.{arith}
 use Rattle.cm_inline.proofs.lemmas.DepthLemmas.{one-more-depth}
 use Rattle.cm_inline.proofs.spare.Spare.+inlines.Goals as goal
 

@@ -1,5 +1,4 @@
-use Rattle.std.proofs.Common.{◌≤◌, ◌+◌, ◌*◌, length}
-use Rattle.cm_tree.specs.Depth.{depth_of, inlines_depth}
+use Rattle.cm_inline.proofs.lemmas.Words.{◌≤◌, ◌+◌, ◌*◌, length, depth_of, inlines_depth}
 use Rattle.cm_inline.proofs.spare.Spare.+inlines.Given as goal
 
 -- What is in an inline nests less deep than it.
