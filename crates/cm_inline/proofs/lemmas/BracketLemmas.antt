@@ -1,8 +1,8 @@
 -- What a `]` makes of the items before it.
-use Rattle.cm_inline.proofs.lemmas.Words.{◌≡◌, ℕ, ◌+◌, ◌-◌, ◌<◌, ◌≤◌, Bool, true, false, not, ◌&&◌, ◌||◌, List, [], ◌∷◌, ◌++◌, length, drop, reverse, Option, Some}
-use Rattle.cm_inline.proofs.lemmas.Words.{None, refl, sym, ap, ◌∙◌, arith, append_assoc, length-drop, nat_lt, slice_range, reverse-append, Rules, Item, Characters}
-use Rattle.cm_inline.proofs.lemmas.Words.{Finished, Linked, Delimiters, Opener, bracket_text, Defined, LinkEnd, Bracketed, OpenerFound, last_opener, end_at}
-use Rattle.cm_inline.proofs.lemmas.Words.{holds_link, made, bracket_is_text, brackets_are_text, closed_by_bracket, close_bracket, Bracket, nat_tests, rules}
+use Rattle.cm_inline.proofs.lemmas.Words.{◌≡◌, ℕ, ◌+◌, ◌<◌, ◌≤◌, Bool, true, false, not, ◌&&◌, ◌||◌, List, [], ◌∷◌, ◌++◌, length, drop, reverse, Option, Some, None}
+use Rattle.cm_inline.proofs.lemmas.Words.{refl, sym, ap, ◌∙◌, arith, append_assoc, length-drop, nat_lt, slice_range, reverse-append, Rules, Item, Characters, Finished}
+use Rattle.cm_inline.proofs.lemmas.Words.{Linked, Delimiters, Opener, bracket_text, Defined, LinkEnd, Bracketed, OpenerFound, last_opener, end_at, holds_link, made}
+use Rattle.cm_inline.proofs.lemmas.Words.{bracket_is_text, brackets_are_text, closed_by_bracket, close_bracket, Bracket, nat_tests, rules}
 use Rattle.std.proofs.lemmas.List.{append-nil}
 use Rattle.cm_scan.specs.inlines.Brackets.{source_up_to}
 use Rattle.cm_inline.specs.steps.Brackets.{is_opener, has_opener, closed_at, end_for}

@@ -1,7 +1,6 @@
 -- What inlines events build, one after another.
 use Rattle.cm_inline.proofs.lemmas.Words.{◌≡◌, ℕ, suc, ◌+◌, ◌-◌, ◌<◌, true, List, [], ◌∷◌, ◌++◌, sym, ap, ◌∙◌, arith, append_assoc, list_all, and_parts, Emphasis}
 use Rattle.cm_inline.proofs.lemmas.Words.{rules}
-use Rattle.cm_tree.specs.declared.tree.Inline.TheVariants as inlines
 use Rattle.cm_inline.specs.declared.runs.Run as held
 use Rattle.cm_inline.specs.declared.runs.Pair as made
 use Rattle.cm_inline.specs.steps.pairing.Events.{Event, Start, End, Built, ended, add_text, build_one, build, made_of}

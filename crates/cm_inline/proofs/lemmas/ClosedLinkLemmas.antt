@@ -6,7 +6,6 @@ use Rattle.cm_inline.proofs.lemmas.Words.{Item, Finished, Opener, emphasis_of, p
 use Rattle.std.proofs.Math.Seq.{set-append_seam}
 use Rattle.cm_inline.specs.declared.links.Target.{Target as PlacedTarget}
 use Rattle.cm_inline.specs.declared.marks.Kind.TheVariants as kinds
-use Rattle.cm_tree.specs.declared.tree.Inline.TheVariants as inlines
 use Rattle.cm_inline.specs.steps.pairing.Events.{Event, Rest, Start, End, Tag, LinkTag, made_of}
 use Rattle.cm_inline.specs.steps.pairing.Parts.{Pair, PairedRun, Part, Known, no_run as no_paired_run, chain, ends, run_events, part_events, events_of}
 use Rattle.cm_inline.specs.steps.pairing.Passes.{number_after, WaitFrom, AllPaired}

@@ -1,7 +1,6 @@
 -- How deep an inline nests that contains no other.
-use Rattle.cm_inline.proofs.lemmas.Words.{◌≡◌, ℕ, ◌+◌, ◌-◌, ◌≤◌, ◌++◌, Bool, List, [], ◌∷◌, ap, max, arith, Inline, Text, Code, Html, Soft, Hard, outs-Code, outs-Html}
+use Rattle.cm_inline.proofs.lemmas.Words.{◌≡◌, ℕ, ◌+◌, ◌≤◌, ◌++◌, Bool, List, [], ◌∷◌, ap, max, arith, Inline, Text, Code, Html, Soft, Hard, outs-Code, outs-Html}
 use Rattle.cm_inline.proofs.lemmas.Words.{outs-Soft, outs-Hard, outs-Link, fold_out-Inline, depth_step, depth_of, inlines_depth, Kind, nat_tests}
-use Rattle.cm_inline.specs.declared.marks.Kind.TheVariants as kinds
 use Rattle.cm_inline.specs.steps.Reads.{inline_in}
 use Rattle.cm_inline.specs.steps.Standalone.{autolink}
 use Rattle.cm_inline.proofs.lemmas.InlineDepthLemmas.{text-depth}

@@ -2,7 +2,6 @@
 use Rattle.cm_inline.proofs.lemmas.Words.{◌≡◌, ℕ, ◌<◌, ◌≤◌, Bool, true, ◌&&◌, List, [], ◌∷◌, ◌++◌, length, refl, sym, ap, subst, ◌∙◌, arith, append_assoc}
 use Rattle.cm_inline.proofs.lemmas.Words.{length-append, slice_range, list_all, and_parts, map-append, get_or_append_left, Targets, Link, Mark, Kind, HeldRun, rules}
 use Rattle.cm_inline.proofs.lemmas.Words.{nat_tests}
-use Rattle.cm_inline.specs.declared.marks.Kind.TheVariants as kinds
 use Rattle.cm_inline.specs.steps.pairing.States.{run_at}
 use Rattle.cm_inline.specs.steps.Marks.{part_of, part_of_kind, texts, text_part, parts_between, stays_text, no_link, IsUnmarked, IsTargetIn, IsLinkIn, IsOfKind, AreLaid}
 use Rattle.cm_inline.proofs.lemmas.SliceLemmas.{slice-both, slice-none}

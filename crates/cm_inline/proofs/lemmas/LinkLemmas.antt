@@ -2,7 +2,7 @@
 use Rattle.cm_inline.proofs.lemmas.Words.{◌≡◌, ◌≢◌, ℕ, suc, ◌+◌, ◌<◌, ◌≤◌, ◌==◌, Bool, true, false, List, [], ◌∷◌, ◌++◌, length, drop, get_or, Option, Some, None}
 use Rattle.cm_inline.proofs.lemmas.Words.{IfSome, codes, refl, sym, ap, subst, ◌∙◌, arith, length-append, length-drop, slice_range, IsCharBoundary, drop_more, Rules}
 use Rattle.cm_inline.proofs.lemmas.Words.{Target, begins_with, after_word, Reading, label, Defined, target_of, target_between, end_if_followed, end_at, begins-at}
-use Rattle.cm_inline.proofs.lemmas.Words.{nat_tests, rules}
+use Rattle.cm_inline.proofs.lemmas.Words.{nat_tests}
 use Rattle.std.proofs.Common.{option_map, Result, IfOk, if◌then◌else◌}
 use Rattle.cm_tree.specs.Definitions.{target_if_followed, target_numbered}
 use Rattle.cm_scan.specs.Scanned.{IsAt}

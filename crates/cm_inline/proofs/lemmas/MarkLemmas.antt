@@ -10,9 +10,8 @@ use Rattle.cm_html.specs.Html.{code_span_html, link_html}
 use Rattle.cm_inline.specs.declared.marks.Kind.TheVariants as kinds
 use Rattle.cm_inline.specs.declared.runs.Run as held
 use Rattle.cm_inline.specs.declared.runs.Pair as made
-use Rattle.cm_inline.specs.steps.pairing.Events.{LinkTag, Start}
+use Rattle.cm_inline.specs.steps.pairing.Events.{LinkTag}
 use Rattle.cm_inline.specs.steps.pairing.Parts.{Pair, chain, ends, run_events, part_events}
-use Rattle.cm_inline.specs.steps.pairing.Parts as parts
 use Rattle.cm_inline.specs.steps.pairing.Readings.{start_html, end_html, Tags, Alternative, is_number, mode_of, page, write_all}
 use Rattle.cm_inline.specs.steps.Marks.{link_tag, part_of_kind, is_escaped, IsOfKind, no_link}
 use Rattle.cm_inline.specs.steps.Runs.{byte_of, tag_in, pairs_in, paired_run, runs_in}

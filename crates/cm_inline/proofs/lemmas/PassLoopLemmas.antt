@@ -91,7 +91,7 @@ reaching-first old openers from front inside a e k =
     let n = number_after 0 front in
     let s = (segments-split 0 (runs_in old.runs.items) (pairs_in old.pairs.items) front inside a.segments).1 in
     let r = reached-first (runs_in old.runs.items) (pairs_in old.pairs.items) old.openers.looks n inside s a.marked in
-    search (rules, n, inside, (sym (inside-waits from old front inside a)),
+    search (rules, (sym (inside-waits from old front inside a)),
         (subst (λ es. Reached old.openers.looks inside (record { runs = runs_in old.runs.items; pairs = pairs_in old.pairs.items; list = record { entries = es; looks = openers.looks; next = n }; bottoms = zeros }) [] inside []) (sym e)
             (subst (λ l. Reached old.openers.looks inside (record { runs = runs_in old.runs.items; pairs = pairs_in old.pairs.items; list = record { entries = []; looks = l; next = n }; bottoms = zeros }) [] inside []) (sym k) r)))
 

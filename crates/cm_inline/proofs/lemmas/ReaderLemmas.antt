@@ -368,7 +368,7 @@ module _ (source : List ℕ) (targets : Targets) (v : View) (bs : List Bracket) 
       let more = Made parts (item_in source at end atom) (number_after 0 segments) ∷ [] in
       let view : more_view v marks ends ≡ put_view v source at end atom ends =
       same-view (more_view v marks ends) (put_view v source at end atom ends) refl (ap (λ t. v.marks ++ t) (sym same)) (sym (append-nil v.runs) ∙ ap (λ t. v.runs ++ t) (sym runs)) (sym (append-nil v.waiting) ∙ ap (λ t. v.waiting ++ t) (sym numbers)) refl refl refl refl in
-      search (rules, more, (items-append segments more),
+      search (rules, (items-append segments more),
           (subst (λ b. IsRead source targets end (put_view v source at end atom ends) (reverse b ++ bs) (segments ++ more)) (sym brackets)
               (subst (λ w. IsRead source targets end w bs (segments ++ more)) view (more-read source targets v bs segments at end marks parts (item_in source at end atom) ends m knows r))))
 

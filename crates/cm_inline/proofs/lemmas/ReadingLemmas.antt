@@ -1,6 +1,6 @@
 -- A start and an end write, and nest, as the inline does that is made of what holds between.
-use Rattle.cm_inline.proofs.lemmas.Words.{◌≡◌, ℕ, zero, ◌+◌, ◌-◌, ◌≤◌, Bool, true, false, cond, ◌==◌, max, List, [], ◌∷◌, ◌++◌, map, Some, refl, sym, ap, subst, ◌∙◌}
-use Rattle.cm_inline.proofs.lemmas.Words.{arith, append-nil, append_assoc, cond-true, cond-false, eq-eqb, ne_eqb, flat_map-append, Inline, fold_out-Inline, outs-Text}
+use Rattle.cm_inline.proofs.lemmas.Words.{◌≡◌, ℕ, zero, ◌+◌, ◌≤◌, Bool, true, false, cond, ◌==◌, max, List, [], ◌∷◌, ◌++◌, map, Some, refl, sym, ap, subst, ◌∙◌, arith}
+use Rattle.cm_inline.proofs.lemmas.Words.{append-nil, append_assoc, cond-true, cond-false, eq-eqb, ne_eqb, flat_map-append, Inline, fold_out-Inline, outs-Text}
 use Rattle.cm_inline.proofs.lemmas.Words.{outs-Link, outs-Image, outs-Emph, outs-Strong, outs-Strike, depth_step, depth_of, inlines_depth, escape_byte, escape}
 use Rattle.cm_inline.proofs.lemmas.Words.{Rendered, inline_step, inlines_html, rendered, Run, Item, emphasised, Characters, Finished, Linked, Delimiters, Opener}
 use Rattle.cm_inline.proofs.lemmas.Words.{bracket_text, text_before, settled_after, settled, rules, nat_tests, codes}
@@ -8,7 +8,7 @@ use Rattle.std.specs.Prelude.{replicate, flat_map}
 use Rattle.cm_tree.specs.declared.tree.Inline.TheVariants as inlines
 use Rattle.cm_html.specs.Html.{join_plain, image_html, image_start, title_html}
 use Rattle.cm_inline.proofs.lemmas.InlineDepthLemmas.{both, settled-after-depth}
-use Rattle.cm_inline.specs.steps.pairing.Events.{Event, Text, Rest, Tag, Emphasis, StrongEmphasis, Strikethrough, LinkTag, Start, End, made_of, tag_of}
+use Rattle.cm_inline.specs.steps.pairing.Events.{Event, Rest, Tag, Emphasis, StrongEmphasis, Strikethrough, LinkTag, Start, End, made_of, tag_of}
 use Rattle.cm_inline.proofs.lemmas.EventLemmas.{means-append, means-rest, means-empty, means-wrap, tag-makes}
 use Rattle.cm_inline.specs.steps.pairing.Readings.{start_html, end_html, Tags, Alternative, is_number, mode_of, page, write_all, item_html, item_plain, AreFree, IsAlone, Writes, deepest, Nests, starts_in, IsNear, StandFor}
 use Rattle.cm_inline.proofs.lemmas.WriteLemmas.{write-append}

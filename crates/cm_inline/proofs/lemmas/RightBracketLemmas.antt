@@ -1,5 +1,5 @@
 -- A source that is read up to a `]`, and what that makes.
-use Rattle.cm_inline.proofs.lemmas.Words.{◌≡◌, ℕ, ◌+◌, ◌-◌, ◌<◌, ◌≤◌, true, false, ◌||◌, List, [], ◌∷◌, ◌++◌, drop, reverse, None, refl, sym, ap, subst, ◌∙◌, arith}
+use Rattle.cm_inline.proofs.lemmas.Words.{◌≡◌, ℕ, ◌+◌, ◌<◌, ◌≤◌, true, false, ◌||◌, List, [], ◌∷◌, ◌++◌, drop, reverse, None, refl, sym, ap, subst, ◌∙◌, arith}
 use Rattle.cm_inline.proofs.lemmas.Words.{append_assoc, nat_lt, IsUtf8, slice_range, list_all, reverse-append, IsCharBoundary-after_ascii, Rules, Targets, defined_in}
 use Rattle.cm_inline.proofs.lemmas.Words.{holds_link, Item, Characters, Opener, bracket_text, Bracket, Reader, Mark, rules}
 use Rattle.cm_inline.specs.declared.marks.Kind.TheVariants as kinds
@@ -37,7 +37,7 @@ bracket-text source at utf8 stands = search (rules, (IsCharBoundary-after_ascii 
 pub goes-on : (rules : Rules) (source : List ℕ) (targets : Targets) (at end : ℕ) (old new : Reader) → Stands source at 93 → at < end → (g : Reading rules source targets at old) → (segments : List Segment) → IsReadTo source targets end new segments
     → closed_at rules (defined_in targets) source (items_in g.segments) at ≡ record { items = reverse (items_in segments); rest = drop end source } → Keeps old.runs.openers.looks (items_in g.segments) new.runs.openers.looks (items_in segments)
     → Reading rules source targets end new
-goes-on rules source targets at end old new stands further g segments read closed keeps = search (segments, read,
+goes-on rules source targets at end old new stands further g segments read closed keeps = search (read,
     (ahead-bracket rules (defined_in targets) source (items_in g.segments) (items_in segments) at end stands further closed ∙ g.goes),
     (closed-pays rules (defined_in targets) source (items_in g.segments) (items_in segments) at end old.runs.openers.looks new.runs.openers.looks stands g.pays further keeps closed))
 

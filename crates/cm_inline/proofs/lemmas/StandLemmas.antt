@@ -1,5 +1,5 @@
 -- Texts cut in pieces, and what marks that were read stand for.
-use Rattle.cm_inline.proofs.lemmas.Words.{◌≡◌, ℕ, ◌+◌, ◌≤◌, ◌==◌, ◌&&◌, Bool, true, false, List, [], ◌∷◌, ◌++◌, map, refl, sym, ap, subst, ◌∙◌, arith, append_assoc}
+use Rattle.cm_inline.proofs.lemmas.Words.{◌≡◌, ℕ, ◌≤◌, ◌==◌, ◌&&◌, Bool, true, false, List, [], ◌∷◌, ◌++◌, map, refl, sym, ap, subst, ◌∙◌, arith, append_assoc}
 use Rattle.cm_inline.proofs.lemmas.Words.{append-nil, if◌then◌else◌, list_all, concat, and_parts, nat_tests, flat_map-append, escape, escape_byte, depth_of, Inline}
 use Rattle.cm_inline.proofs.lemmas.Words.{Item, Characters, Finished, Opener, bracket_text, get_or_append_left, rules}
 use Rattle.cm_tree.specs.declared.tree.Inline.TheVariants as inline

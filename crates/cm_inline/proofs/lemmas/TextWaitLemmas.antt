@@ -4,11 +4,8 @@ use Rattle.cm_inline.proofs.lemmas.Words.{Result, slice_range, IsCharBoundary, a
 use Rattle.cm_inline.proofs.lemmas.Words.{one_line, Reader, Mark, rules, nat_tests}
 use Rattle.std.specs.Prelude.{IfOk}
 use Rattle.std.proofs.lemmas.List.{append-nil, get_or_default}
-use Rattle.cm_inline.specs.declared.marks.Kind.TheVariants as kinds
 use Rattle.cm_inline.specs.declared.marks.Place.{Place}
-use Rattle.cm_inline.specs.declared.runs.Run as held
 use Rattle.cm_inline.specs.steps.pairing.Parts.{events_of}
-use Rattle.cm_inline.specs.steps.pairing.Parts as parts
 use Rattle.cm_inline.specs.steps.pairing.Readings.{Mode, Tags, Alternative, Page, page, write_all}
 use Rattle.cm_inline.specs.steps.Marks.{events_in, IsUnmarked, AreLaid, IsSettled}
 use Rattle.cm_inline.specs.steps.Runs.{runs_in, pairs_in}

@@ -6,7 +6,6 @@ use Rattle.cm_inline.proofs.lemmas.Words.{item_step, items_after, inlines_of, de
 use Rattle.std.proofs.lemmas.List.{append-nil}
 use Rattle.std.proofs.lemmas.List.Concat.{flat_map-append}
 use Rattle.cm_scan.specs.inlines.Pairing as pairing
-use Rattle.cm_scan.specs.inlines.Pieces.{pieces_of}
 use Rattle.cm_scan.specs.inlines.Inlines as inlines
 use Rattle.cm_scan.proofs.lemmas.inlines.ReadingSteps.{reading_goes_on, bracket_step}
 use Rattle.cm_scan.proofs.lemmas.inlines.PairingInPieces.{texts_in_pieces}
@@ -65,18 +64,13 @@ pub ahead-bracket : (rules : Rules) (defined : Defined) (source : List ℕ) (so_
     → ahead rules defined source more end ≡ ahead rules defined source so_far at
 ahead-bracket rules defined source so_far more at end stands further closed = search (ahead-step, bracket-at)
 
--- items with one more, in pieces
-pieces-more : (source : List ℕ) (so_far : List pairing.Item) (item : pairing.Item) → in_pieces (so_far ++ item ∷ []) ≡ in_pieces so_far ++ pieces_of item
-pieces-more source so_far item =
-    flat_map-append pieces_of so_far (item ∷ []) ∙ ap (λ t. in_pieces so_far ++ t) (append-nil (pieces_of item))
-
 pieces-pieces : (text : List ℕ) → in_pieces (one_by_one text) ≡ one_by_one text
 pieces-pieces [] = refl
 pieces-pieces (b ∷ bs) = ap (λ t. pairing.Characters (b ∷ []) ∷ t) (pieces-pieces bs)
 
 pub text-pieces : (source : List ℕ) (so_far : List pairing.Item) (at end : ℕ) → let text = slice_range source at end in
     in_pieces (reverse (reverse (one_by_one text) ++ reverse so_far)) ≡ in_pieces (reverse (reverse (so_far ++ pairing.Characters (slice_range source at end) ∷ [])))
-text-pieces source so_far at end = search (rules, reverse-append, reverse-reverse, flat_map-append, pieces-pieces, pieces-more)
+text-pieces source so_far at end = search (rules, reverse-append, reverse-reverse, flat_map-append, pieces-pieces)
 
 text-on : (rules : Rules) (defined : Defined) (source : List ℕ) (so_far : List pairing.Item) (at end : ℕ) → IsTextTo source at end
     → ahead rules defined source (so_far ++ pairing.Characters (slice_range source at end) ∷ []) end ≡ ahead rules defined source so_far at

@@ -1,4 +1,4 @@
-use Rattle.cm_inline.proofs.lemmas.Words.{◌≤◌, [], refl, sym, subst, drop, ◌∙◌, arith, link_of, Finished, rules}
+use Rattle.cm_inline.proofs.lemmas.Words.{◌≤◌, [], refl, sym, subst, drop, ◌∙◌, arith, link_of, Finished}
 use Rattle.cm_scan.specs.Scanned.{autolink_with}
 use Rattle.cm_tree.specs.declared.tree.Inline.TheVariants as inlines
 use Rattle.cm_inline.specs.steps.Reads.{IsAtom}

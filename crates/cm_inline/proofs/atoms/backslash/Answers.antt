@@ -1,4 +1,4 @@
-use Rattle.cm_inline.proofs.lemmas.Words.{◌≡◌, ℕ, ◌+◌, ◌<◌, true, get_or, refl, sym, ap, ◌∙◌, arith, is_ascii_punct, rules}
+use Rattle.cm_inline.proofs.lemmas.Words.{◌≡◌, ℕ, ◌+◌, ◌<◌, true, get_or, refl, sym, ap, ◌∙◌, arith, is_ascii_punct}
 use Rattle.cm_inline.proofs.lemmas.AtomLemmas.{hard-is, escape-is, backslash-is-text}
 use Rattle.cm_inline.proofs.lemmas.LinkLemmas.{next-of}
 use Rattle.cm_inline.proofs.atoms.backslash.Goals as goal

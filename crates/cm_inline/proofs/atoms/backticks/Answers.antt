@@ -1,4 +1,4 @@
-use Rattle.cm_inline.proofs.lemmas.Words.{◌≡◌, ◌+◌, ◌-◌, None, sym, subst, drop, arith, ap, ◌∙◌, one_line, stripped, Finished, run_length, rules}
+use Rattle.cm_inline.proofs.lemmas.Words.{◌≡◌, ◌+◌, ◌-◌, None, sym, subst, drop, arith, ap, ◌∙◌, one_line, stripped, Finished, run_length}
 use Rattle.cm_tree.specs.declared.tree.Inline.TheVariants as inlines
 use Rattle.cm_inline.proofs.lemmas.StandaloneLemmas.{span-placed}
 use Rattle.cm_scan.proofs.lemmas.spans.BacktickStrings.{span-content}

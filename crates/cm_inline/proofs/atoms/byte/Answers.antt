@@ -1,4 +1,4 @@
-use Rattle.cm_inline.proofs.lemmas.Words.{◌≡◌, ◌∙◌, get_or, sym, ap, refl, false, rules}
+use Rattle.cm_inline.proofs.lemmas.Words.{◌≡◌, ◌∙◌, get_or, sym, ap, refl, false}
 use Rattle.cm_inline.specs.steps.Marks.{is_escaped}
 use Rattle.cm_inline.specs.steps.Reads.{Stands}
 use Rattle.cm_inline.proofs.lemmas.AtomLemmas.{escaped-is, text-is, stays-lone}

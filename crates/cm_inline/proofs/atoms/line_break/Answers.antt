@@ -1,4 +1,4 @@
-use Rattle.cm_inline.proofs.lemmas.Words.{◌≡◌, ◌+◌, ◌-◌, List, ℕ, Bool, true, false, refl, sym, subst, ◌∙◌, ap, if◌then◌else◌, Finished, Kind, rules}
+use Rattle.cm_inline.proofs.lemmas.Words.{◌≡◌, ◌+◌, ◌-◌, List, ℕ, Bool, true, false, refl, sym, subst, ◌∙◌, ap, if◌then◌else◌, Finished, Kind}
 use Rattle.std.specs.Prelude.{nat_le}
 use Rattle.cm_tree.specs.declared.tree.Inline.TheVariants as inlines
 use Rattle.cm_inline.specs.declared.marks.Kind.TheVariants.{Soft, Hard}

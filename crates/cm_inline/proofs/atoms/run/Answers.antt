@@ -1,4 +1,4 @@
-use Rattle.cm_inline.proofs.lemmas.Words.{◌<◌, ◌+◌, drop, arith, sym, ap, ◌∙◌, run_length, after_run, Marker, Star, rules}
+use Rattle.cm_inline.proofs.lemmas.Words.{◌<◌, ◌+◌, drop, arith, sym, ap, ◌∙◌, run_length, after_run, Marker, Star}
 use Rattle.cm_inline.specs.steps.Runs.{byte_of}
 use Rattle.cm_inline.proofs.lemmas.AtomLemmas.{marker-text-is, marker-run-is}
 use Rattle.cm_inline.proofs.atoms.run.Goals as goal

@@ -1,4 +1,4 @@
-use Rattle.cm_inline.proofs.lemmas.Words.{◌≡◌, get_or, ap, ◌+◌, ◌∙◌, arith, next_place, is_marked, not-same, rules}
+use Rattle.cm_inline.proofs.lemmas.Words.{◌≡◌, get_or, ap, ◌∙◌, arith, next_place, is_marked, not-same, rules}
 use Rattle.cm_inline.proofs.lemmas.TextLemmas.{text-to-markup, text-to-spaces}
 use Rattle.cm_inline.proofs.atoms.text_end.Goals as goal
 use Rattle.cm_inline.proofs.atoms.text_end.Goals.{else-end-source-via-then-end-source+else-as_bytes-end-eq10, else-end-source-via-else-end-source}

@@ -1,4 +1,4 @@
-use Rattle.cm_inline.proofs.lemmas.Words.{true, false, drop, sym, ap, subst, ◌∙◌, arith, end_if_followed, gap-of, next-ascii, rules}
+use Rattle.cm_inline.proofs.lemmas.Words.{drop, sym, ap, subst, ◌∙◌, arith, end_if_followed, gap-of, next-ascii, rules}
 use Rattle.std.proofs.Common.{IsUtf8}
 use Rattle.cm_inline.proofs.lemmas.SliceLemmas.{slice-none}
 use Rattle.cm_inline.proofs.lemmas.LinkLemmas.{next-of, turned, no-inline_end, by-destination, from-by, part-from}

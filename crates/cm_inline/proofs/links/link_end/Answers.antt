@@ -1,4 +1,4 @@
-use Rattle.cm_inline.proofs.lemmas.Words.{◌+◌, drop, IfSome, subst, slice_range, rules}
+use Rattle.cm_inline.proofs.lemmas.Words.{◌+◌, drop, IfSome, subst, slice_range}
 use Rattle.cm_inline.specs.steps.Links.{IsPlaced}
 use Rattle.cm_inline.proofs.lemmas.LinkLemmas.{turned, ends-behind, placed, inline-first, no-inline}
 use Rattle.cm_inline.proofs.links.link_end.Goals as goal

@@ -1,4 +1,4 @@
-use Rattle.cm_inline.proofs.lemmas.Words.{◌-◌, arith, rules}
+use Rattle.cm_inline.proofs.lemmas.Words.{arith, rules}
 use Rattle.cm_scan.proofs.lemmas.spans.BacktickStrings.{further}
 use Rattle.cm_inline.proofs.lemmas.MissingEndsLemmas.{next-tick, no-tick, none-behind-last}
 use Rattle.cm_inline.proofs.missing_ends.last_backticks.Goals as goal

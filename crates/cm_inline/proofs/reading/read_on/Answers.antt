@@ -1,4 +1,4 @@
-use Rattle.cm_inline.proofs.lemmas.Words.{arith, rules, nat_tests}
+use Rattle.cm_inline.proofs.lemmas.Words.{arith, nat_tests}
 use Rattle.cm_inline.proofs.lemmas.ReaderLemmas.{text-goes, put-goes}
 use Rattle.cm_inline.proofs.reading.read_on.Goals as goal
 

@@ -1,4 +1,4 @@
-use Rattle.cm_inline.proofs.lemmas.Words.{◌≡◌, sym, ap, subst, ◌∙◌, arith, Result, IsErrAnd, inlines_depth, emphasis_of, InlineFault, rules}
+use Rattle.cm_inline.proofs.lemmas.Words.{◌≡◌, sym, ap, subst, ◌∙◌, arith, Result, IsErrAnd, inlines_depth, emphasis_of, InlineFault}
 use Rattle.std.specs.Prelude.{Ok, Err, IfErr}
 use Rattle.cm_inline.specs.Reading.{Refused}
 use Rattle.cm_inline.specs.steps.pairing.Segments.{items_in}
