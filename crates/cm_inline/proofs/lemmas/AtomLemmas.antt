@@ -166,8 +166,8 @@ module _ (rules : Rules) (source : List ℕ) (at : ℕ) where
       let feed = next-stands 92 10 utf8 s (omega arith) next in
       let end : at + 1 + 1 ≡ at + 2 = omega arith in
       search
-          (is-atom _ (at + 2) (record { atom = Whole inline.Hard; rest = drop (at + 1 + 1) source }) s.within (slash-in (10 ∷ drop (at + 1 + 1) source) s (front source (at + 1) 10 feed))
-              (ap (λ n. drop n source) end) refl (subst (IsCharBoundary source) end (IsCharBoundary-after_ascii source (at + 1) utf8 feed.within (omega (arith, feed.byte)))) hard-holds)
+      (is-atom _ (at + 2) (record { atom = Whole inline.Hard; rest = drop (at + 1 + 1) source }) s.within (slash-in (10 ∷ drop (at + 1 + 1) source) s (front source (at + 1) 10 feed))
+      (ap (λ n. drop n source) end) refl (subst (IsCharBoundary source) end (IsCharBoundary-after_ascii source (at + 1) utf8 feed.within (omega (arith, feed.byte)))) hard-holds)
 
   abbrev escape_or : Option (List ℕ × ℕ) → List ℕ → Option AtomRead
   escape_or o text = elim o as (λ _. Option AtomRead) [ Some escaped ↦ read (Plain escaped.0) (drop escaped.1 text) | None ↦ None ]
@@ -416,12 +416,16 @@ module _ (rules : Rules) (source : List ℕ) (at : ℕ) where
       let long_is : run.whole ≡ run_length b (drop at source) = ap (λ (r : delimiters.Run). r.whole) is ∙ size_is in
       let character : byte_of run.marker ≡ b = ap (λ (r : delimiters.Run). r.character) is in
       search (
-          (is-atom (items.Delimiters (run_of run)) end (run_read b (drop (at + 1) source)) s.within same rest
-              (ap (λ r. Some (items.Delimiters r)) (ap (λ n. run_between rules b n (reverse (take at source)) (after_run b (b ∷ drop (at + 1) source))) (sym count)
-              ∙ ap (run_between rules b (end - at) (reverse (take at source))) rest ∙ sym is)) boundary
-              (known m rules.strike (end - at == 2) (run_of run) (ap (λ (r : delimiters.Run). r.character) is) struck, whole
-              ∙ sym (ap (λ (r : delimiters.Run). r.whole) is), (let long : run.whole ≡ end - at = ap (λ (r : delimiters.Run). r.whole) is in omega (arith, long, low)))),
-          (ap (λ n. take n (drop at source)) size_is ∙ run-front b (drop at source) ∙ ap (λ n. replicate n b) (sym long_is) ∙ ap (replicate run.whole) (sym character)))
+        (is-atom (items.Delimiters (run_of run)) end (run_read b (drop (at + 1) source)) s.within same rest
+            (ap (λ r. Some (items.Delimiters r)) (ap (λ n. run_between rules b n (reverse (take at source)) (after_run b (b ∷ drop (at + 1) source))) (sym count)
+            ∙ ap (run_between rules b (end - at) (reverse (take at source))) rest ∙ sym is)) boundary (
+              known m rules.strike (end - at == 2) (run_of run) (ap (λ (r : delimiters.Run). r.character) is) struck,
+              whole
+                  ∙ sym (ap (λ (r : delimiters.Run). r.whole) is),
+              (let long : run.whole ≡ end - at = ap (λ (r : delimiters.Run). r.whole) is in omega (arith, long, low)),
+            )),
+        (ap (λ n. take n (drop at source)) size_is ∙ run-front b (drop at source) ∙ ap (λ n. replicate n b) (sym long_is) ∙ ap (replicate run.whole) (sym character)),
+      )
 
   -- a byte by itself
 

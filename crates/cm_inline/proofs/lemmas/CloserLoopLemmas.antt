@@ -38,7 +38,7 @@ held-run parts first c s before e w g =
     let f : Found c e g.below fs before = stacked-found c g.passed e g.below fs before (subst (λ es. Stacked es fs before) g.whole w.waits.stacked) g.none in
     let such = λ (n : ℕ) (r : Run). r ≡ (get_or s.runs n no_paired_run).run in
     let all : AreHeld s.runs fs = such-append such (events_of s.runs s.pairs parts) (ends (drop first s.pairs)) (such-parts such s.runs s.pairs parts (all-held s.runs parts) w.marked)
-        (such-none such _ (ends-none (drop first s.pairs))) in
+    (such-none such _ (ends-none (drop first s.pairs))) in
     held-at s.runs f.front f.back e.place e.run (subst (AreHeld s.runs) f.events all)
 
 -- so the pair is written as the definition has it
@@ -121,10 +121,10 @@ pub put-closed : (parts : List Part) (old : State) (run : Run) (had : List Item)
 put-closed parts old run had mid bs number left x within d is none from to =
     let s = state_of mid bs number in
     let runs = map-set paired_run mid.runs.items number x
-        ∙ ap (λ (q : Run). set (runs_in mid.runs.items) number (record { run = q; opened = x.opened; from = x.from; to = x.to })) is
-        ∙ ap (λ k. set (runs_in mid.runs.items) number (record { run = record run { left = left }; opened = k; from = x.from; to = x.to })) none
-        ∙ ap (λ k. set (runs_in mid.runs.items) number (closed_run (record run { left = left }) k x.to)) from
-        ∙ ap (λ k. set (runs_in mid.runs.items) number (closed_run (record run { left = left }) (length old.pairs) k)) (to ∙ sym (length-map mid.pairs.items pair_in)) in
+    ∙ ap (λ (q : Run). set (runs_in mid.runs.items) number (record { run = q; opened = x.opened; from = x.from; to = x.to })) is
+    ∙ ap (λ k. set (runs_in mid.runs.items) number (record { run = record run { left = left }; opened = k; from = x.from; to = x.to })) none
+    ∙ ap (λ k. set (runs_in mid.runs.items) number (closed_run (record run { left = left }) k x.to)) from
+    ∙ ap (λ k. set (runs_in mid.runs.items) number (closed_run (record run { left = left }) (length old.pairs) k)) (to ∙ sym (length-map mid.pairs.items pair_in)) in
     subst (λ rs. PartAdded parts old run had (record (state_of mid bs number) { runs = rs }) number left) (sym runs) (put-finished parts old number left run had s (omega (arith, within, length-map mid.runs.items paired_run)) refl d)
 
 -- the pass goes on behind a run of which nothing is left, or that doesn't open

@@ -145,8 +145,13 @@ closing-ends parts old run c had s e h go g left =
     let w = go.closing in
     let p = holds-pairs parts (length old.pairs) c s go.before e w.holds g in
     let found = opened_at e.run p.low p.inside in
-    search (rules, (reverse (up_to_pair found c)), (sym (pass-ends go.before c found h p.nearest left) ∙ w.goes), pair-holds go.before c found p.nearest,
-        reversed-hold (up_to_pair found c))
+    search (
+      rules,
+      (reverse (up_to_pair found c)),
+      (sym (pass-ends go.before c found h p.nearest left) ∙ w.goes),
+      pair-holds go.before c found p.nearest,
+      reversed-hold (up_to_pair found c),
+    )
 
 not-none : (n : ℕ) → 1 ≤ n → nat_le n 0 ≡ false
 not-none n p =
@@ -280,12 +285,24 @@ put-other parts s number run had within at is other some w = search (rules, drop
 pub next-put : (parts : List Part) (old : State) (run : Run) (had : List Item) (s : State) (number left : ℕ) (list : Listed) (after : List Item) → (p : PartAdded parts old run had s number left) → list.next ≡ number + 1 → after ≡ passed had (Delimiters run)
     → WaitAsOpeners (p.events ++ Rest number (record run { left = left }) ∷ []) after list s.bottoms → ((kinds : ℕ) → kind run < kinds → spent kinds list s.bottoms ≤ spent kinds old.list old.bottoms + (kinds + 1 + run.left))
     → old.list.looks + items_emphases after ≤ list.looks + items_emphases had → PassGoesOn parts old run had (record s { list = list }) number
-next-put parts old run had s number left list after p next is waits paid made = search (rules,
-    (subst (PartsHold (parts ++ Numbered number ∷ []) (length s.pairs) (record s { list = list })) is
-        (record { waits = subst (λ fs. WaitAsOpeners fs after list s.bottoms) (sym p.whole) waits; marked = p.marked; under = under-append number list.next parts (Numbered number ∷ [])
-        (omega (arith, next)) p.under (omega (arith, next), tt); rising = subst (Rising 0) (sym p.whole) p.rising; early = omega arith; })),
-    paid, made, ap items_emphases (sym is), ap starts_in p.whole, so-far-starts (parts ++ Numbered number ∷ []) (length s.pairs) s,
-    starts-append p.events (Rest number (record run { left = left }) ∷ []))
+next-put parts old run had s number left list after p next is waits paid made = search (
+  rules,
+  (subst (PartsHold (parts ++ Numbered number ∷ []) (length s.pairs) (record s { list = list })) is
+      (record {
+        waits = subst (λ fs. WaitAsOpeners fs after list s.bottoms) (sym p.whole) waits;
+        marked = p.marked;
+        under = under-append number list.next parts (Numbered number ∷ [])
+            (omega (arith, next)) p.under (omega (arith, next), tt);
+        rising = subst (Rising 0) (sym p.whole) p.rising;
+        early = omega arith;
+      })),
+  paid,
+  made,
+  ap items_emphases (sym is),
+  ap starts_in p.whole,
+  so-far-starts (parts ++ Numbered number ∷ []) (length s.pairs) s,
+  starts-append p.events (Rest number (record run { left = left }) ∷ []),
+)
 
 left-over : (parts : List Part) (old : State) (run : Run) (had : List Item) (s : State) (number left : ℕ) (p : PartAdded parts old run had s number left) (b : Bool) → nat_le left 0 ≡ b → cond b [] (Delimiters (record run { left = left }) ∷ []) ++ p.before ≡ passed had (Delimiters run)
 left-over parts old run had s number left p b h = ap (λ k. cond k [] (Delimiters (record run { left = left }) ∷ []) ++ p.before) (sym h) ∙ ap (λ t. t ++ p.before) (sym p.rest_is) ∙ p.goes

@@ -93,9 +93,13 @@ open-linked leaf runs more links_end [] xs ms to linked later high h = closed-la
 open-linked leaf runs more links_end (b ∷ bs) xs ms to linked later high h =
     let m : Mark = record { at = h.at; end = b.end; kind = Plain } in
     let low : b.mark < links_end = omega (arith, h.number, ap length h.marks_are, length-append h.early (m ∷ h.late), high) in
-    search (rules, (closed-later leaf runs more links_end b.end to h.inside h.late later h.closed), (below-end b.mark links_end low ∙ sym (or-true (holds_link (items_in h.inside)))),
-        (subst (AreOpen (later_leaf leaf runs more links_end) bs h.front h.early h.at) (sym (or-true (holds_link (items_in h.inside))))
-            (open-linked leaf runs more links_end bs h.front h.early h.at (holds_link (items_in h.inside) || linked) later (omega (arith, h.number, low)) h.below)))
+    search (
+      rules,
+      (closed-later leaf runs more links_end b.end to h.inside h.late later h.closed),
+      (below-end b.mark links_end low ∙ sym (or-true (holds_link (items_in h.inside)))),
+      (subst (AreOpen (later_leaf leaf runs more links_end) bs h.front h.early h.at) (sym (or-true (holds_link (items_in h.inside))))
+          (open-linked leaf runs more links_end bs h.front h.early h.at (holds_link (items_in h.inside) || linked) later (omega (arith, h.number, low)) h.below)),
+    )
 
 not-below : (n end : ℕ) → end ≤ n → nat_lt n end ≡ false
 not-below n end h = grind (arith, nat_tests, h)

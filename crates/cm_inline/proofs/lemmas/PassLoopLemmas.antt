@@ -91,9 +91,12 @@ reaching-first old openers from front inside a e k =
     let n = number_after 0 front in
     let s = (segments-split 0 (runs_in old.runs.items) (pairs_in old.pairs.items) front inside a.segments).1 in
     let r = reached-first (runs_in old.runs.items) (pairs_in old.pairs.items) old.openers.looks n inside s a.marked in
-    search (rules, (sym (inside-waits from old front inside a)),
-        (subst (λ es. Reached old.openers.looks inside (record { runs = runs_in old.runs.items; pairs = pairs_in old.pairs.items; list = record { entries = es; looks = openers.looks; next = n }; bottoms = zeros }) [] inside []) (sym e)
-            (subst (λ l. Reached old.openers.looks inside (record { runs = runs_in old.runs.items; pairs = pairs_in old.pairs.items; list = record { entries = []; looks = l; next = n }; bottoms = zeros }) [] inside []) (sym k) r)))
+    search (
+      rules,
+      (sym (inside-waits from old front inside a)),
+      (subst (λ es. Reached old.openers.looks inside (record { runs = runs_in old.runs.items; pairs = pairs_in old.pairs.items; list = record { entries = es; looks = openers.looks; next = n }; bottoms = zeros }) [] inside []) (sym e)
+          (subst (λ l. Reached old.openers.looks inside (record { runs = runs_in old.runs.items; pairs = pairs_in old.pairs.items; list = record { entries = []; looks = l; next = n }; bottoms = zeros }) [] inside []) (sym k) r)),
+    )
 
 -- a run
 
@@ -128,7 +131,7 @@ passing-step old new now bs cs from at number p e s =
     let a = subst (AreNumbers p.next (length old.runs.items)) e p.ahead in
     let g = s.grows (first_from old from) (omega (arith, p.begun, a.0)) p.above in
     let left = ap (λ (r : PairedRun). r.run.left)
-        (sym (get_or-map paired_run new.runs.items number no_run no_paired_run (omega (arith, a.1, p.same.long))) ∙ p.grows.others number (inr a.0) ∙ get_or-map paired_run old.runs.items number no_run no_paired_run a.1) in
+    (sym (get_or-map paired_run new.runs.items number no_run no_paired_run (omega (arith, a.1, p.same.long))) ∙ p.grows.others number (inr a.0) ∙ get_or-map paired_run old.runs.items number no_run no_paired_run a.1) in
     record {
       next = number + 1;
       waiting = s.waiting ∙ p.waiting;
@@ -191,12 +194,18 @@ passes-at old new from next front inside before entries bs a r stays same starts
     let pairs = pairs_in new.pairs.items in
     let s : State = record { runs = runs; pairs = pairs; list = record { entries = entries; looks = new.openers.looks; next = next }; bottoms = bs } in
     let behind : AreSegments (runs_in old.runs.items) (pairs_in old.pairs.items) n inside = (segments-split 0 (runs_in old.runs.items) (pairs_in old.pairs.items) front inside a.segments).1 in
-    search (rules, stays, same, (end-stands old.openers.looks inside s before r),
-        (rising-raised n 0 runs pairs (all_parts inside) (all-parts (λ k. n ≤ k) inside
-            (segments-from n n (runs_in old.runs.items) (pairs_in old.pairs.items) inside (omega arith) behind)) r.holds.marked (rising-done (all_parts inside) s before r.holds)),
-        (subst (λ k. AreUnder k (all_parts inside)) (length-map new.runs.items paired_run) (parts-under runs pairs (all_parts inside) r.holds.marked)), starts,
-        (w ∙ ap (take from) a.waiting ∙ take-append-le from (numbers_in front) (numbers_in inside) (omega (arith, a.place)) ∙ take_all from (numbers_in front) (omega (arith, a.place))),
-        (end-looks old.openers.looks inside s before r))
+    search (
+      rules,
+      stays,
+      same,
+      (end-stands old.openers.looks inside s before r),
+      (rising-raised n 0 runs pairs (all_parts inside) (all-parts (λ k. n ≤ k) inside
+          (segments-from n n (runs_in old.runs.items) (pairs_in old.pairs.items) inside (omega arith) behind)) r.holds.marked (rising-done (all_parts inside) s before r.holds)),
+      (subst (λ k. AreUnder k (all_parts inside)) (length-map new.runs.items paired_run) (parts-under runs pairs (all_parts inside) r.holds.marked)),
+      starts,
+      (w ∙ ap (take from) a.waiting ∙ take-append-le from (numbers_in front) (numbers_in inside) (omega (arith, a.place)) ∙ take_all from (numbers_in front) (omega (arith, a.place))),
+      (end-looks old.openers.looks inside s before r),
+    )
 
 -- where nothing waits
 pub passes-none : (old : Runs) (from : ℕ) (front inside : List Segment) → from ≡ length old.waiting.items → WaitFrom from old front inside → AllPaired old old front inside

@@ -60,7 +60,7 @@ unfolding items_in pass_from
 reached-made looks inside s done ahead before parts item high r =
     let m = r.segments.0 in
     let rising = rising-join 0 s.list.next (events_of s.runs s.pairs (all_parts done)) (events_of s.runs s.pairs parts) (omega arith) (rising-done (all_parts done) s before r.holds)
-        (low-parts s.list.next s.runs s.pairs (all_parts done) r.holds.under r.holds.marked) m.rising in
+    (low-parts s.list.next s.runs s.pairs (all_parts done) r.holds.under r.holds.marked) m.rising in
     record {
       whole = r.whole ∙ sym (append_assoc done (Made parts item high ∷ []) ahead);
       holds = subst (λ ms. PartsHold ms (length s.pairs) (with_next high s) (item ∷ before)) (sym (parts-more done (Made parts item high))) (pass-made (all_parts done) parts item high s before r.holds m rising);

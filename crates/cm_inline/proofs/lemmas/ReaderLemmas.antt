@@ -56,8 +56,10 @@ pub nothing-read : (rules : Rules) (source : List ℕ) (targets : Targets) (read
     → reader.runs.openers.looks ≡ 0 → Knows source reader.ends → Reading rules source targets 0 reader
 unfolding items_in
 nothing-read rules source targets reader lines short utf8 fresh brackets looks knows = search (
-    (subst (λ bs. IsRead source targets 0 (view_of reader) (reverse bs) []) (sym brackets) (subst (λ v. IsRead source targets 0 v [] []) (sym fresh) (fresh-read source targets lines reader.ends short utf8 knows))),
-    (ahead-start rules (defined_in targets) source), (nothing-pays rules (defined_in targets) source [] reader.runs.openers.looks refl looks))
+  (subst (λ bs. IsRead source targets 0 (view_of reader) (reverse bs) []) (sym brackets) (subst (λ v. IsRead source targets 0 v [] []) (sym fresh) (fresh-read source targets lines reader.ends short utf8 knows))),
+  (ahead-start rules (defined_in targets) source),
+  (nothing-pays rules (defined_in targets) source [] reader.runs.openers.looks refl looks),
+)
 
 -- starts among texts
 pub texts-start : (runs : List PairedRun) (pairs : List Pair) (text : List ℕ) → starts_in (events_of runs pairs (texts text)) ≡ 0
@@ -368,9 +370,12 @@ module _ (source : List ℕ) (targets : Targets) (v : View) (bs : List Bracket) 
       let more = Made parts (item_in source at end atom) (number_after 0 segments) ∷ [] in
       let view : more_view v marks ends ≡ put_view v source at end atom ends =
       same-view (more_view v marks ends) (put_view v source at end atom ends) refl (ap (λ t. v.marks ++ t) (sym same)) (sym (append-nil v.runs) ∙ ap (λ t. v.runs ++ t) (sym runs)) (sym (append-nil v.waiting) ∙ ap (λ t. v.waiting ++ t) (sym numbers)) refl refl refl refl in
-      search (rules, (items-append segments more),
-          (subst (λ b. IsRead source targets end (put_view v source at end atom ends) (reverse b ++ bs) (segments ++ more)) (sym brackets)
-              (subst (λ w. IsRead source targets end w bs (segments ++ more)) view (more-read source targets v bs segments at end marks parts (item_in source at end atom) ends m knows r))))
+      search (
+        rules,
+        (items-append segments more),
+        (subst (λ b. IsRead source targets end (put_view v source at end atom ends) (reverse b ++ bs) (segments ++ more)) (sym brackets)
+            (subst (λ w. IsRead source targets end w bs (segments ++ more)) view (more-read source targets v bs segments at end marks parts (item_in source at end atom) ends m knows r))),
+      )
 
   pub put-read : (rules : Rules) (atom : Atom) → IsAtom rules source at (item_in source at end atom) end → IsThere source at end atom → PutRead source targets at end v bs segments atom ends
   unfolding items_in
@@ -420,9 +425,10 @@ put-goes rules source targets at end old new within p g =
     let items = read.items in
     let looks : new.runs.openers.looks ≡ old.runs.openers.looks = ap (λ o. o.looks) p.openers in
     search (
-        (subst (λ b. IsRead source targets end (view_of new) b (g.segments ++ read.more)) (sym brackets)
-            (subst (λ w. IsRead source targets end w (reverse more ++ bs) (g.segments ++ read.more)) (sym view) read.read)),
-        (ap (λ t. ahead rules (defined_in targets) source t end) items ∙ ahead-atom rules (defined_in targets) source (items_in g.segments) at (item_in source at end p.atom) end within is ∙ g.goes),
-        (subst (λ n. Pays rules (defined_in targets) source (items_in (g.segments ++ read.more)) end n) (sym looks)
-            (subst (λ t. Pays rules (defined_in targets) source t end old.runs.openers.looks) (sym items)
-            (atom-more-pays rules (defined_in targets) source (items_in g.segments) at (item_in source at end p.atom) end old.runs.openers.looks within is g.pays))))
+      (subst (λ b. IsRead source targets end (view_of new) b (g.segments ++ read.more)) (sym brackets)
+          (subst (λ w. IsRead source targets end w (reverse more ++ bs) (g.segments ++ read.more)) (sym view) read.read)),
+      (ap (λ t. ahead rules (defined_in targets) source t end) items ∙ ahead-atom rules (defined_in targets) source (items_in g.segments) at (item_in source at end p.atom) end within is ∙ g.goes),
+      (subst (λ n. Pays rules (defined_in targets) source (items_in (g.segments ++ read.more)) end n) (sym looks)
+          (subst (λ t. Pays rules (defined_in targets) source t end old.runs.openers.looks) (sym items)
+          (atom-more-pays rules (defined_in targets) source (items_in g.segments) at (item_in source at end p.atom) end old.runs.openers.looks within is g.pays))),
+    )

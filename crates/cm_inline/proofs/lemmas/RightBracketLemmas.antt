@@ -30,16 +30,21 @@ bracket-slice : (source : List ℕ) (at : ℕ) → Stands source at 93 → slice
 bracket-slice source at stands = one-slice source at stands.within ∙ ap (λ b. b ∷ []) stands.byte
 
 bracket-text : (source : List ℕ) (at : ℕ) → IsUtf8 source → Stands source at 93 → IsText source at (at + 1)
-bracket-text source at utf8 stands = search (rules, (IsCharBoundary-after_ascii source at utf8 stands.within (omega (arith, stands.byte))),
-    (ap (list_all (stays_text true)) (bracket-slice source at stands)))
+bracket-text source at utf8 stands = search (
+  rules,
+  (IsCharBoundary-after_ascii source at utf8 stands.within (omega (arith, stands.byte))),
+  (ap (list_all (stays_text true)) (bracket-slice source at stands)),
+)
 
 -- With other items, of which it is known what a `]` makes of them.
 pub goes-on : (rules : Rules) (source : List ℕ) (targets : Targets) (at end : ℕ) (old new : Reader) → Stands source at 93 → at < end → (g : Reading rules source targets at old) → (segments : List Segment) → IsReadTo source targets end new segments
     → closed_at rules (defined_in targets) source (items_in g.segments) at ≡ record { items = reverse (items_in segments); rest = drop end source } → Keeps old.runs.openers.looks (items_in g.segments) new.runs.openers.looks (items_in segments)
     → Reading rules source targets end new
-goes-on rules source targets at end old new stands further g segments read closed keeps = search (read,
-    (ahead-bracket rules (defined_in targets) source (items_in g.segments) (items_in segments) at end stands further closed ∙ g.goes),
-    (closed-pays rules (defined_in targets) source (items_in g.segments) (items_in segments) at end old.runs.openers.looks new.runs.openers.looks stands g.pays further keeps closed))
+goes-on rules source targets at end old new stands further g segments read closed keeps = search (
+  read,
+  (ahead-bracket rules (defined_in targets) source (items_in g.segments) (items_in segments) at end stands further closed ∙ g.goes),
+  (closed-pays rules (defined_in targets) source (items_in g.segments) (items_in segments) at end old.runs.openers.looks new.runs.openers.looks stands g.pays further keeps closed),
+)
 
 -- No bracket is open.
 no-opener : (leaf : MarkedLeaf) (segments : List Segment) (marks : List Mark) (at : ℕ) → AreOpen leaf [] segments marks at false → has_opener (items_in segments) ≡ false

@@ -55,7 +55,11 @@ pass-made done ms item high s before w m rising =
     let gone = ap (λ t. events_of s.runs s.pairs done ++ ends t) (drop-all s.pairs) ∙ append-nil (events_of s.runs s.pairs done) in
     let whole = ap (λ t. events_of s.runs s.pairs (done ++ ms) ++ ends t) (drop-all s.pairs) ∙ append-nil (events_of s.runs s.pairs (done ++ ms)) ∙ events-append s.runs s.pairs done ms in
     let waits = subst (λ fs. WaitAsOpeners fs before s.list s.bottoms) gone w.waits in
-    search (rules,
-        (subst (λ fs. WaitAsOpeners fs (item ∷ before) (record s.list { next = high }) s.bottoms) (sym whole)
-            (waits-raised high m.high_is (waits-others (events_of s.runs s.pairs done) (events_of s.runs s.pairs ms) before (item ∷ []) s.list s.bottoms waits m.means (none item m.other)))),
-        (parts-append s.runs s.pairs done ms w.marked m.marked), (under-append s.list.next high done ms m.high_is w.under m.under), (subst (Rising 0) (sym whole) rising))
+    search (
+      rules,
+      (subst (λ fs. WaitAsOpeners fs (item ∷ before) (record s.list { next = high }) s.bottoms) (sym whole)
+          (waits-raised high m.high_is (waits-others (events_of s.runs s.pairs done) (events_of s.runs s.pairs ms) before (item ∷ []) s.list s.bottoms waits m.means (none item m.other)))),
+      (parts-append s.runs s.pairs done ms w.marked m.marked),
+      (under-append s.list.next high done ms m.high_is w.under m.under),
+      (subst (Rising 0) (sym whole) rising),
+    )

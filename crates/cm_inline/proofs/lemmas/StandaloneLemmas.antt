@@ -112,8 +112,8 @@ link-placed rules source at end link utf8 within high e left =
     let size : end - 1 - (at + 1) ≡ length link.text = omega (arith, place) in
     let is = ap (λ n. take n (drop (at + 1) source)) size ∙ ap (take (length link.text)) behind-it ∙ take-append_seam link.text (62 ∷ link.rest) in
     let tick : begins_with 62 (drop (end - 1) source) ≡ true =
-        let same : end - 1 ≡ at + 1 + length link.text = omega (arith, place) in
-        ap (λ n. begins_with 62 (drop n source)) same ∙ ap (begins_with 62) (sym (drop-drop (length link.text) (at + 1) source) ∙ ap (drop (length link.text)) behind-it ∙ drop-append_seam link.text (62 ∷ link.rest)) in
+    let same : end - 1 ≡ at + 1 + length link.text = omega (arith, place) in
+    ap (λ n. begins_with 62 (drop n source)) same ∙ ap (begins_with 62) (sym (drop-drop (length link.text) (at + 1) source) ∙ ap (drop (length link.text)) behind-it ∙ drop-append_seam link.text (62 ∷ link.rest)) in
     let last : IsCharBoundary source (end - 1) = let found = begins-at 62 source (end - 1) tick in IsCharBoundary-before_ascii source (end - 1) found.0 (omega (arith, found.2)) in
     (is, (omega (arith, place), IsCharBoundary-after_ascii source at utf8 within (omega (arith, low)), last))
   where

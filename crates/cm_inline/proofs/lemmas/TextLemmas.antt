@@ -118,12 +118,15 @@ text-to-spaces source at end within e some feed =
     let inside : at + length left < length source = omega (arith, size, whole, found.low, some) in
     let first : get_or source (at + length left) 0 < 128 = first-ascii source (at + length left) parts.count (drop end source) inside rest (ap (λ t. get_or t 0 0) (drop_more source end 0 some) ∙ feed) in
     let part : slice_range source at (at + length left) ≡ left = (let n : at + length left - at ≡ length left = omega arith in ap (λ k. take k (drop at source)) n ∙ ap (take (length left)) behind ∙ take-past left (replicate parts.count 32 ++ drop end source)) in
-    search (rules, (IsCharBoundary-before_ascii source (at + length left) inside first),
-        (ap (list_all is_plain_byte) part ∙ front-all is_plain_byte left (replicate parts.count 32) (sym (ap (list_all is_plain_byte) parts.is) ∙ found.plain)),
-        (ap (list_all (stays_text true)) part ∙ front-all (stays_text true) left (replicate parts.count 32) (sym (ap (list_all (stays_text true)) parts.is) ∙ found.stays)),
-        (ap (λ t. not ((begins_with 32 (drop (at + length left) source) || begins_with 10 (drop (at + length left) source)) && ends_with 32 t)) part
-            ∙ ap (λ v. not ((begins_with 32 (drop (at + length left) source) || begins_with 10 (drop (at + length left) source)) && v)) parts.ended
-            ∙ (elim (begins_with 32 (drop (at + length left) source) || begins_with 10 (drop (at + length left) source)) as (λ next. not (next && false) ≡ true) [ true ↦ refl | false ↦ refl ])))
+    search (
+      rules,
+      (IsCharBoundary-before_ascii source (at + length left) inside first),
+      (ap (list_all is_plain_byte) part ∙ front-all is_plain_byte left (replicate parts.count 32) (sym (ap (list_all is_plain_byte) parts.is) ∙ found.plain)),
+      (ap (list_all (stays_text true)) part ∙ front-all (stays_text true) left (replicate parts.count 32) (sym (ap (list_all (stays_text true)) parts.is) ∙ found.stays)),
+      (ap (λ t. not ((begins_with 32 (drop (at + length left) source) || begins_with 10 (drop (at + length left) source)) && ends_with 32 t)) part
+          ∙ ap (λ v. not ((begins_with 32 (drop (at + length left) source) || begins_with 10 (drop (at + length left) source)) && v)) parts.ended
+          ∙ (elim (begins_with 32 (drop (at + length left) source) || begins_with 10 (drop (at + length left) source)) as (λ next. not (next && false) ≡ true) [ true ↦ refl | false ↦ refl ])),
+    )
 
 -- a source without markup is one text
 

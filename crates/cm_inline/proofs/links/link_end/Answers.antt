@@ -19,5 +19,5 @@ returns c =
     let leaf = c.args.leaf in
     let between = slice_range leaf.source.now c.args.after c.args.at in
     let ends = turned leaf c.reference_end.result _ _ (no-inline c.args.rules leaf between
-        (drop (c.args.at + 1) leaf.source.now) c.in_ok-inline.field-0 c.in_default.is c.in_ok-inline.ensures.ends) c.reference_end.ensures.ends in
+    (drop (c.args.at + 1) leaf.source.now) c.in_ok-inline.field-0 c.in_default.is c.in_ok-inline.ensures.ends) c.reference_end.ensures.ends in
     record { ends = ends; place = placed c.args.rules leaf c.args.at between c.reference_end.result c.requires.stands.within ends c.reference_end.ensures.place }
