@@ -1,10 +1,7 @@
 //! The entries of the table of definitions.
-ghost use Rattle.std.specs.Prelude.{◌≡◌, ◌≤◌, ◌<◌, ◌^◌, ◌/◌, ◌||◌};
-ghost use Rattle.std.specs.Prelude.{ℕ, None, Some, length, get_or, option_map, IfOk, IfSome, string_bytes};
+ghost use Rattle.std.specs.Prelude.{◌≡◌, ◌≤◌, ◌||◌, ℕ, None, length, get_or, IfOk, IfSome, string_bytes};
 ghost use Rattle.std.specs.Str.{bytes_eq};
-ghost use Rattle.cm_tree.specs.Definitions.{Target};
-ghost use Rattle.cm_tree.specs.LinkTargets.{led_to};
-ghost use Rattle.cm_tree.specs.steps.KeptTexts.{kept_label, kept_target, GoesOn};
+ghost use Rattle.cm_tree.specs.steps.KeptTexts.{kept_label, GoesOn};
 ghost use Rattle.cm_tree.specs.steps.LabelIndex.{hash_of, home};
 ghost use Rattle.cm_tree.specs.steps.LabelIndex.{IsIndex, IsLabel, IsNew, IsPassed, AreDistinct};
 ghost use Rattle.cm_tree.specs.steps.Entries.{labels_in, IsEntry, AreEntries, IsMade};

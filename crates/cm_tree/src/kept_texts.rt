@@ -3,7 +3,6 @@
 //! Short ones follow one another in a text that holds those of all definitions, so a definition takes 32
 //! bytes and its texts. A long destination is on the heap instead, where its references share it.
 ghost use Rattle.std.specs.Prelude.{◌≡◌, ◌<◌, ℕ, List, IfOk, string_bytes, length};
-ghost use Rattle.cm_tree.specs.Definitions.{Target};
 ghost use Rattle.cm_tree.specs.LinkTargets.{led_to};
 ghost use Rattle.cm_tree.specs.steps.KeptTexts.{kept_label, kept_target, IsKept, Keeps, GoesOn};
 

@@ -5,8 +5,8 @@
 //! slots, and then descends a tree ordered by label. If there would be fewer than four slots for each entry
 //! in one, their number is doubled and the index made anew, while the entries stay where they are.
 ghost use Rattle.std.specs.Prelude.{◌≡◌, ◌≤◌, ◌/◌, ◌^◌, [], length, true, false};
-ghost use Rattle.std.specs.Prelude.{None, IfOk, IfSome, IsSome, OnOk, OnErr};
-ghost use Rattle.cm_tree.specs.steps.LabelIndex.{hash_of, home, crowded, IsFree, IsFull, IsIndex, IsSame};
+ghost use Rattle.std.specs.Prelude.{None, IfOk, IfSome, OnErr};
+ghost use Rattle.cm_tree.specs.steps.LabelIndex.{hash_of, home, IsFree, IsFull, IsIndex, IsSame};
 ghost use Rattle.cm_tree.specs.steps.LabelIndex.{GoesIn, IsPutInTree, IsThere};
 
 use std::alloc::{AllocError, Global};

@@ -7,7 +7,7 @@ use Rattle.cm_text.specs.Lines.{LineView}
 use Rattle.cm_text.specs.Indentation.{indent_from, indent_of, tab_width}
 use Rattle.cm_text.specs.TextLines.{begins_text, is_text_behind}
 use Rattle.cm_scan.specs.blocks.Lines.{content_of, marks}
-use Rattle.cm_scan.specs.blocks.Starts.{Start, TextLine, start_of_content, start_of, start_by}
+use Rattle.cm_scan.specs.blocks.Starts.{TextLine, start_of_content, start_of, start_by}
 use Rattle.cm_scan.proofs.lemmas.texts.ToldApart.{differs}
 use Rattle.cm_block.specs.OpenLeaf.{no_leaf, open_text, stays_open, LineOpens, begins_nothing, begins_leaf, begin_of_start, begin_of, closed_leaves, line_of_leaf}
 use Rattle.cm_block.specs.Level.{Level, block_opens}

@@ -4,11 +4,10 @@ use Rattle.std.specs.List.{fold, flat_map, list_all}
 use Rattle.std.proofs.lemmas.Bool.{and_parts, eqb-true}
 use Rattle.std.proofs.lemmas.List.{append_cancel_right}
 use Rattle.cm_text.specs.LineText.{is_line}
-use Rattle.cm_text.specs.Lines.{LineView, lines_of, plain_line, plain_lines_of, with_line_feed}
+use Rattle.cm_text.specs.Lines.{lines_of, plain_line, plain_lines_of, with_line_feed}
 use Rattle.cm_text.specs.TextLines.{is_text_behind, are_text, AreTextLines}
 use Rattle.cm_text.proofs.lemmas.TextLineLemmas.{all_lines, begins_as_text}
 use Rattle.cm_scan.specs.Words.{is_space_or_tab, trim_start, skip}
-use Rattle.cm_scan.specs.blocks.Lines.{content_of}
 use Rattle.cm_scan.specs.blocks.Blocks.{line_feeds, add_text}
 use Rattle.cm_block.proofs.lemmas.TextStarts.{text-shows}
 use Rattle.cm_block.specs.steps.TextRuns.{add_lines, with_line}

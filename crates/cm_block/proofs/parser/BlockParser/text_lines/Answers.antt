@@ -1,4 +1,4 @@
-use Rattle.std.proofs.Common.{◌∙◌, refl, ap, subst, arith}
+use Rattle.std.proofs.Common.{◌∙◌, ap, arith}
 use Rattle.cm_text.specs.Lines.{lines_of, plain_lines_of}
 use Rattle.cm_text.specs.declared.text_lines.TextLines.{TextLines}
 use Rattle.cm_text.proofs.lemmas.TextLineLemmas.{all_lines}
