@@ -26,6 +26,7 @@ impl Neighbour {
         ensures { neighbour_of result ≡ neighbour rules beside }
     {
         match beside {
+            Some(c) if c.is_ascii_alphabetic() => Neighbour::Other,
             Some(c) if is_space(c) => Neighbour::Whitespace,
             Some(c) if is_punct_by(rules, c) => Neighbour::Punctuation,
             Some(_) => Neighbour::Other,

@@ -147,16 +147,14 @@ impl Runs {
         let count = used(opener.run, closer);
         let number = opener.number as usize;
         let left = opener.run.left - count;
-        let held = self.runs[number];
         self.pairs.push(Pair {
             emphasis: emphasis_of(closer.marker, count),
-            before: held.opened,
+            before: self.runs[number].opened,
         })?;
-        self.runs[number] = Run {
-            run: DelimiterRun { left, ..held.run },
-            opened: index(self.pairs.len())?,
-            ..held
-        };
+        let opened = index(self.pairs.len())?;
+        let held = &mut self.runs[number];
+        held.opened = opened;
+        held.run.left = left;
         self.openers.leave(left);
         Ok(closer.left - count)
     }
@@ -278,12 +276,37 @@ impl Runs {
         Ok(())
     }
 
+    /// The same where some run waits.
+    fn pair_waiting(&mut self, from: usize, limit: usize) -> Result<(), InlineFault>
+        requires some { from < length self.old.waiting.items }
+        requires pass { CanPass from self.old }
+        requires chained { AreChained (runs_in self.old.runs.items) (pairs_in self.old.pairs.items) }
+        ensures passes { OnOk result ((front inside : List Segment) → WaitFrom from self.old front inside
+            → AllPaired self.old self.new front inside) }
+        ensures same { OnOk result (SameRuns self.old.runs.items self.new.runs.items) }
+        ensures chained { OnOk result
+            (AreChained (runs_in self.new.runs.items) (pairs_in self.new.pairs.items)) }
+        ensures deep { result ≡ Err InlinesTooDeep → (front inside : List Segment)
+            → WaitFrom from self.old front inside → limit < items_depth (pair_all (items_in inside)) }
+        ensures short { result ≢ Err SourceTooLong }
+    {
+        self.openers.clear();
+        let mut bottoms = [0; KINDS];
+        for at in from..self.waiting.len() {
+            let number = self.waiting[at];
+            self.pass(number, &mut bottoms, limit)?;
+        }
+        self.waiting.truncate(from);
+        Ok(())
+    }
+
     /// Makes all pairs among the runs that wait from a place on. None of them waits then.
     ///
     /// # Errors
     ///
     /// `InlinesTooDeep` where the pairs of one run nest deeper than the limit, `NoMemory` if a request for
     /// memory was refused.
+    #[inline(always)]
     pub(crate) fn pair_from(&mut self, from: usize, limit: usize) -> Result<(), InlineFault>
         requires pass { CanPass from self.old }
         requires chained { AreChained (runs_in self.old.runs.items) (pairs_in self.old.pairs.items) }
@@ -299,13 +322,6 @@ impl Runs {
         if from == self.waiting.len() {
             return Ok(());
         }
-        self.openers.clear();
-        let mut bottoms = [0; KINDS];
-        for at in from..self.waiting.len() {
-            let number = self.waiting[at];
-            self.pass(number, &mut bottoms, limit)?;
-        }
-        self.waiting.truncate(from);
-        Ok(())
+        self.pair_waiting(from, limit)
     }
 }

@@ -2,7 +2,7 @@ use Rattle.cm_inline.proofs.lemmas.Words.{List, drop}
 use Rattle.cm_inline.specs.steps.pairing.Passes.{WaitFrom}
 use Rattle.cm_inline.specs.steps.pairing.Segments.{Segment}
 use Rattle.cm_inline.proofs.lemmas.PassLoopLemmas.{Passing, Reaching}
-use Rattle.cm_inline.proofs.runs.Runs.pair_from.Given as goal
+use Rattle.cm_inline.proofs.runs.Runs.pair_waiting.Given as goal
 
 abbrev pub invariant-loop-at : goal.invariant-loop-at
 invariant-loop-at l = record {
