@@ -89,7 +89,7 @@ impl Unread {
         let is_return = rest.as_bytes()[self.line] == b'\r';
         let behind = self.passed + self.line + 1;
         let (passed, after_return) = past_line_feed(&self.text, behind, is_return);
-        self.text_ahead = TextAhead::none();
+        self.text_ahead.count = 0;
         self.line = line_len(&self.text[passed..], 0);
         self.passed = passed;
         self.after_return = after_return;
@@ -102,12 +102,11 @@ impl Unread {
         ensures len { string_len self.new.text ≡ string_len self.old.text }
     {
         let rest = self.rest();
-        let ahead = if may_begin_text(rest.as_bytes()) {
-            text_ahead(rest, self.line)
+        if may_begin_text(rest.as_bytes()) {
+            self.text_ahead = text_ahead(rest, self.line);
         } else {
-            TextAhead::none()
-        };
-        self.text_ahead = ahead;
+            self.text_ahead.count = 0;
+        }
     }
 
     /// The lines of text that were found at the start.
@@ -140,7 +139,7 @@ impl Unread {
         ensures len { string_len self.new.text ≡ string_len self.old.text }
     {
         let TextAhead { len, line, .. } = self.text_ahead;
-        self.text_ahead = TextAhead::none();
+        self.text_ahead.count = 0;
         self.line = line;
         self.passed += len;
     }
@@ -179,7 +178,7 @@ impl Unread {
         ensures kept { OnErr result (string_len self.new.text ≤ string_len self.old.text) }
     {
         self.shrink()?;
-        self.text_ahead = TextAhead::none();
+        self.text_ahead.count = 0;
         let has_ended = self.passed + self.line < self.text.len();
         self.text.push_str(more)?;
         if !has_ended {
