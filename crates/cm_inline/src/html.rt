@@ -10,7 +10,7 @@ use crate::alternative_text::push_alternative_text;
 use crate::brackets::Reader;
 use crate::html_links::{push_autolink, push_end, push_start};
 use crate::html_runs::push_run;
-use crate::html_texts::{push_character, push_code_span, push_reference, push_text};
+use crate::html_texts::{push_character, push_code, push_reference, push_text};
 use crate::marks::{Kind, Mark, Place, part};
 use crate::runs::Run;
 use cm_html::Pages;
@@ -58,7 +58,7 @@ fn push_one(
         Kind::Escaped => push_reference(html, source.as_bytes()[mark.at as usize]),
         Kind::Nothing => Ok(()),
         Kind::Character(character) => push_character(html, character),
-        Kind::Code { from, to } => push_code_span(html, part(source, from, to)),
+        Kind::Code { from, to } => push_code(html, source, from as usize, to as usize),
         Kind::Html => html.push_str(part(source, mark.at, mark.end)),
         Kind::Autolink { is_address } => {
             let text = part(source, mark.at + 1, mark.end - 1);

@@ -10,7 +10,7 @@ ghost use Rattle.cm_inline.specs.steps.Standalone.{IsBetween};
 
 use crate::delimiter_runs::DelimiterRun;
 use cm_html::{Element, Pages};
-use cm_text::cut_at;
+use cm_text::{cut_at, next_markup};
 use memchr::memchr;
 use std::alloc::AllocError;
 
@@ -74,6 +74,28 @@ pub(crate) fn push_code_span(html: &mut Pages, text: &str) -> Result<(), AllocEr
 {
     html.push_str(Element::Code.start())?;
     push_one_line(html, text)?;
+    html.push_str(Element::Code.end())
+}
+
+/// Adds the code span between two places of the source. Most have nothing that HTML escapes, as their bytes
+/// show.
+#[inline(always)]
+pub(crate) fn push_code(
+    html: &mut Pages,
+    source: &str,
+    from: usize,
+    to: usize,
+) -> Result<(), AllocError>
+    requires { IsBetween source.now from to }
+    ensures { OnOk result (html.new
+        ≡ html.old ++ code_span_html (one_line (slice_range source.now from to))) }
+{
+    let text = &source[from..to];
+    if next_markup(source.as_bytes(), from) < to {
+        return push_code_span(html, text);
+    }
+    html.push_str(Element::Code.start())?;
+    html.push_str(text)?;
     html.push_str(Element::Code.end())
 }
 

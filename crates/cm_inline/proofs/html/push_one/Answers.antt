@@ -1,3 +1,4 @@
+use Rattle.cm_inline.proofs.lemmas.Words.{refl}
 use Rattle.cm_inline.proofs.lemmas.HtmlLemmas.{on-ok}
 use Rattle.cm_inline.proofs.lemmas.MarkLemmas.{escaped-at, tags-plain, tags-escaped, tags-nothing, tags-character, tags-code, tags-html, tags-autolink, tags-soft, tags-hard, tags-start, tags-end}
 use Rattle.cm_inline.proofs.html.push_one.Goals as goal
@@ -20,7 +21,7 @@ returns-in-Character c = on-ok c.push_character.result c.push_character.ensures 
 
 pub returns-in-Code : goal.returns-in-Code
 returns-in-Code c =
-    on-ok c.push_code_span.result c.push_code_span.ensures (λ e. tags-code c.args.source.now c.args.definitions.now c.args.reader.now c.args.mark c.args.html.now _ _ c.in-Code.from c.in-Code.to c.in-Code.is c.part-in-Code.ensures e)
+    on-ok c.push_code.result c.push_code.ensures (λ e. tags-code c.args.source.now c.args.definitions.now c.args.reader.now c.args.mark c.args.html.now _ _ c.in-Code.from c.in-Code.to c.in-Code.is refl e)
 
 pub returns-in-Html : goal.returns-in-Html
 returns-in-Html c = on-ok c.push_str-in-Html.result c.push_str-in-Html.ensures (λ e. tags-html c.args.source.now c.args.definitions.now c.args.reader.now c.args.mark c.args.html.now _ _ c.in-Html.is c.part-in-Html.ensures e)
