@@ -1,13 +1,44 @@
 //! Code spans in a text (CommonMark 0.31.2, 6.1 Code spans).
 ghost use Rattle.std.specs.Prelude.{◌≡◌, ◌≤◌, ℕ, None, false, length, drop, IfSome, IsUtf8};
 ghost use Rattle.std.specs.Str.{IsCharBoundary};
+ghost use Rattle.memchr.specs.Find.{IsFirstByte, is_byte};
 ghost use Rattle.cm_scan.specs.Words.{run_length};
 ghost use Rattle.cm_scan.specs.spans.CodeSpans.{up_to_run, span_content, spanned_as_written, code_span};
 ghost use Rattle.cm_scan.specs.Scanned.{reading_of};
 ghost use Rattle.cm_scan.specs.steps.SpanSteps.{run_at};
 
 use crate::words::{after_run, bytes_from};
-use memchr::memchr;
+use cm_text::{ByteKind, next_of};
+use std::simd::prelude::*;
+
+/// A backtick.
+struct Backtick;
+
+impl ByteKind for Backtick {
+    ghost passes = { is_byte 96 };
+
+    #[inline(always)]
+    fn contains(b: u8) -> bool {
+        b == b'`'
+    }
+
+    #[inline(always)]
+    fn lanes(lanes: u8x16) -> u64 {
+        lanes.simd_eq(u8x16::splat(b'`')).to_bitmask()
+    }
+}
+
+/// The place of the first backtick. It is mostly near, and a call of `memchr` takes more.
+#[inline(always)]
+fn first_backtick(bytes: &[u8]) -> Option<usize>
+    ensures { IsFirstByte (is_byte 96) bytes.now result }
+{
+    let at = next_of::<Backtick>(bytes, 0);
+    if at == bytes.len() {
+        return None;
+    }
+    Some(at)
+}
 
 /// The code span at a place in a text, which is the boundary of a character: what is between its two backtick
 /// strings, as it is written, and the place after the second one (CommonMark 0.31.2, 6.1 Code spans).
@@ -42,7 +73,7 @@ fn next_run(text: &str, from: usize, count: usize) -> Option<(usize, usize)>
     ensures boundary { IfSome result (λ run. IsCharBoundary text.now run.0 × IsCharBoundary text.now run.1) }
 {
     let mut at = from;
-    while let Some(plain) = memchr(b'`', bytes_from(text, at)) {
+    while let Some(plain) = first_backtick(bytes_from(text, at)) {
         let start = at + plain;
         at = after_run(b'`', text, start);
         if at - start == count {
