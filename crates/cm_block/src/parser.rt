@@ -124,6 +124,7 @@ impl BlockParser {
     }
 
     /// Adds a blank line to the innermost container.
+    #[inline(always)]
     fn push_blank(&mut self) -> Result<(), NoMemory>
         requires { leaf_of self.old.leaf ≡ no_leaf }
         ensures pushed { OnOk result (stack_of self.new ≡ with_blank self.old.stack self.old.owners) }

@@ -580,6 +580,7 @@ impl Stack {
     }
 
     /// Opens a leaf block in the innermost level.
+    #[inline(always)]
     pub(crate) fn open_block(&mut self) -> Result<(), RawFault>
         ensures level { OnOk result (self.new.level ≡ block_opens self.old.level) }
         ensures frames { self.new.frames ≡ self.old.frames }

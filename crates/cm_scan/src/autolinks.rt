@@ -28,6 +28,7 @@ pub fn autolink<'a>(text: &'a str, at: usize) -> Option<(Autolink<'a>, usize)>
 }
 
 /// The same with these rules: an autolink to an address that they don't follow is none.
+#[inline(always)]
 pub fn autolink_by<'a>(rules: Rules, text: &'a str, at: usize) -> Option<(Autolink<'a>, usize)>
     requires { IsCharBoundary text.now at }
     ensures read { option_map (λ r. autolink_with r.0.is_address r.0.text.now (drop r.1 text.now)) result

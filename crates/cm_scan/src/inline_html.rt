@@ -31,6 +31,7 @@ pub fn raw_html<'a>(text: &'a str, at: usize) -> Option<(&'a str, usize)>
 
 /// The same with these rules. With the older ones the text of a comment doesn't start with `>` or `->`,
 /// doesn't end with `-`, and contains no `--`. With those without raw HTML there is none.
+#[inline(always)]
 pub fn raw_html_by<'a>(rules: Rules, text: &'a str, at: usize) -> Option<(&'a str, usize)>
     requires { IsCharBoundary text.now at }
     ensures read { reading_of text.now result

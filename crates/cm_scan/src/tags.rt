@@ -221,6 +221,7 @@ pub(crate) fn tag_name(bytes: &[u8]) -> Option<Tag<'_>>
 }
 
 /// An open tag, after its `<`.
+#[inline(always)]
 pub(crate) fn open_tag(inside: &[u8]) -> Option<Tag<'_>>
     ensures { MatchOption result (open_tag (60 ∷ inside.now) ≡ None)
         (λ tag. open_tag (60 ∷ inside.now) ≡ Some (record { name = tag.name.now; rest = tag.rest.now })) }

@@ -63,6 +63,7 @@ pub(crate) fn reference(text: &[u8]) -> Option<(Chars, usize)>
     after_ampersand(&text[1..])
 }
 
+#[inline(always)]
 fn after_ampersand(text: &[u8]) -> Option<(Chars, usize)>
     ensures { read_of result ≡ reference (38 ∷ text.now) }
 {

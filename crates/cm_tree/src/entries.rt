@@ -88,6 +88,7 @@ pub(crate) fn entry_under(
 }
 
 /// The same, if it is in a slot.
+#[inline(always)]
 pub(crate) fn in_slots(
     texts: &str,
     entries: &[Entry],

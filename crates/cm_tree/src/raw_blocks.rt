@@ -240,6 +240,7 @@ impl RawBlocks {
     ///
     /// `NoMemory` if a request for memory was refused, `TooLarge` if a place would need more than 32
     /// bits.
+    #[inline(always)]
     pub fn paragraph(&mut self, source: &str) -> Result<RawBlock, RawFault>
         ensures block { IfOk result (λ block.
             block_in self.new block ≡ trees.Paragraph (raw_inlines source.now)) }

@@ -109,6 +109,7 @@ impl Unread {
     }
 
     /// Adds the HTML of these inlines.
+    #[inline(always)]
     fn push_content(
         &self,
         reader: &mut InlineReader,
