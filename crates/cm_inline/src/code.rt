@@ -3,13 +3,52 @@ ghost use Rattle.std.specs.Prelude.{◌≡◌, ◌==◌, ◌||◌, IfOk};
 ghost use Rattle.std.specs.List.{list_all, slice_range};
 ghost use Rattle.cm_scan.specs.spans.CodeSpans.{one_line, stripped};
 ghost use Rattle.cm_text.specs.Bytes.{line_feed, space};
+ghost use Rattle.cm_text.specs.Search.{next_place};
+ghost use Rattle.cm_inline.specs.steps.Marks.{is_changed_in_code};
 ghost use Rattle.cm_inline.specs.steps.Standalone.{IsBetween};
 
 use crate::spare::Spare;
-use cm_text::cut_at;
+use cm_text::{ByteKind, cut_at, next_of};
 use cm_tree::Text;
 use memchr::memchr;
 use std::alloc::AllocError;
+use std::simd::prelude::*;
+
+/// The bytes of the kind, each at the position of its last four bits, which no two of them share. A byte that
+/// isn't at its own position is none of them.
+const CHANGED: [u8; 16] = [
+    b'`', 0, b'"', 0, 0, 0, b'&', 0, 0, 0, b'\n', 0, b'<', 0, b'>', 0,
+];
+
+/// The bytes of a code span that HTML doesn't have as they are, and a backtick, which ends it.
+struct Changed;
+
+impl ByteKind for Changed {
+    ghost passes = { is_changed_in_code };
+
+    #[inline(always)]
+    fn contains(b: u8) -> bool {
+        CHANGED[usize::from(b & 15)] == b
+    }
+
+    #[inline(always)]
+    fn lanes(lanes: u8x16) -> u64 {
+        let places = lanes & u8x16::splat(15);
+        u8x16::from_array(CHANGED)
+            .swizzle_dyn(places)
+            .simd_eq(lanes)
+            .to_bitmask()
+    }
+}
+
+/// The least place, at or after `from`, of a byte that HTML doesn't have as it is in a code span, or of a
+/// backtick; the length if there is none.
+#[inline(always)]
+pub(crate) fn next_changed(bytes: &[u8], from: usize) -> usize
+    ensures { result ≡ next_place is_changed_in_code bytes.now from }
+{
+    next_of::<Changed>(bytes, from)
+}
 
 /// Whether a byte is a space, or a line feed, which becomes one.
 #[inline(always)]

@@ -8,9 +8,10 @@ ghost use Rattle.cm_inline.specs.steps.Marks.{is_escaped};
 ghost use Rattle.cm_inline.specs.steps.Runs.{byte_of};
 ghost use Rattle.cm_inline.specs.steps.Standalone.{IsBetween};
 
+use crate::code::next_changed;
 use crate::delimiter_runs::DelimiterRun;
 use cm_html::{Element, Pages};
-use cm_text::{cut_at, next_markup};
+use cm_text::cut_at;
 use memchr::memchr;
 use std::alloc::AllocError;
 
@@ -91,7 +92,7 @@ pub(crate) fn push_code(
         ≡ html.old ++ code_span_html (one_line (slice_range source.now from to))) }
 {
     let text = &source[from..to];
-    if next_markup(source.as_bytes(), from) < to {
+    if next_changed(source.as_bytes(), from) < to {
         return push_code_span(html, text);
     }
     html.push_str(Element::Code.start())?;

@@ -3,7 +3,8 @@ use Rattle.cm_inline.proofs.lemmas.Words.{◌≡◌, ℕ, zero, suc, ◌+◌, �
 use Rattle.cm_inline.proofs.lemmas.Words.{drop, get_or, refl, sym, ap, ◌∙◌, arith, add-one, length-drop, list_all, slice_range, nat_tests, length-take-le, get_or-take}
 use Rattle.cm_inline.proofs.lemmas.Words.{is_byte, ends_with, one_line, stripped, rules}
 use Rattle.std.proofs.lemmas.List.{take-take, drop-drop, get_or-drop}
-use Rattle.cm_inline.proofs.lemmas.Words.{escape, escape_byte, is_marked, next_place}
+use Rattle.cm_inline.proofs.lemmas.Words.{escape, escape_byte, next_place}
+use Rattle.cm_inline.specs.steps.Marks.{is_changed_in_code}
 use Rattle.std.specs.List.{position_or_len}
 use Rattle.memchr.specs.Find.{Passes, Nowhere}
 use Rattle.cm_scan.specs.spans.CodeSpans.{but_last}
@@ -137,20 +138,20 @@ inner-is bs from to low high =
     ap (λ n. take (n - 1 - 1) (drop 1 (slice_range bs from to))) size ∙ inner (to - from) (drop from bs)
     ∙ ap (λ n. take n (drop 1 (drop from bs))) width ∙ ap (take (to - 1 - (from + 1))) (drop-drop 1 from bs)
 
--- a text in which nothing is marked is written as it is
-unmarked-byte : (b : ℕ) → is_marked b ≡ false → escape_byte (cond (b == 10) 32 b) ≡ b ∷ []
-unmarked-byte b e = grind (arith, nat_tests, e)
+-- a code span with no such byte is written as it is
+unchanged-byte : (b : ℕ) → is_changed_in_code b ≡ false → escape_byte (cond (b == 10) 32 b) ≡ b ∷ []
+unchanged-byte b e = grind (arith, nat_tests, e)
 
-unmarked-front : (text : List ℕ) (count : ℕ) → count ≤ position_or_len is_marked text → escape (one_line (take count text)) ≡ take count text
-unmarked-front text zero low = refl
-unmarked-front [] (suc count) low = refl
-unmarked-front (b ∷ bs) (suc count) low = go (is_marked b) refl low (unmarked-front bs count)
+unchanged-front : (text : List ℕ) (count : ℕ) → count ≤ position_or_len is_changed_in_code text → escape (one_line (take count text)) ≡ take count text
+unchanged-front text zero low = refl
+unchanged-front [] (suc count) low = refl
+unchanged-front (b ∷ bs) (suc count) low = go (is_changed_in_code b) refl low (unchanged-front bs count)
   where
-    go : (m : Bool) → is_marked b ≡ m → suc count ≤ cond (not m) (1 + position_or_len is_marked bs) 0 → (count ≤ position_or_len is_marked bs → escape (one_line (take count bs)) ≡ take count bs)
+    go : (m : Bool) → is_changed_in_code b ≡ m → suc count ≤ cond (not m) (1 + position_or_len is_changed_in_code bs) 0 → (count ≤ position_or_len is_changed_in_code bs → escape (one_line (take count bs)) ≡ take count bs)
         → escape (one_line (b ∷ take count bs)) ≡ b ∷ take count bs
     go true e some rest = absurd (omega (arith, some))
     go false e some rest =
-        ap (λ t. t ++ escape (one_line (take count bs))) (unmarked-byte b e) ∙ ap (λ t. b ∷ t) (rest (omega (arith, some)))
+        ap (λ t. t ++ escape (one_line (take count bs))) (unchanged-byte b e) ∙ ap (λ t. b ∷ t) (rest (omega (arith, some)))
 
-pub unmarked-line : (source : List ℕ) (from to : ℕ) → to ≤ next_place is_marked source from → escape (one_line (slice_range source from to)) ≡ slice_range source from to
-unmarked-line source from to low = unmarked-front (drop from source) (to - from) (omega (arith, low))
+pub unchanged-line : (source : List ℕ) (from to : ℕ) → to ≤ next_place is_changed_in_code source from → escape (one_line (slice_range source from to)) ≡ slice_range source from to
+unchanged-line source from to low = unchanged-front (drop from source) (to - from) (omega (arith, low))

@@ -82,6 +82,10 @@ events_in source targets reader = events_of (runs_in reader.runs.runs.items) (pa
 abbrev pub is_escaped : ℕ → Bool
 is_escaped b = b == ampersand || b == less_than || b == greater_than || b == quotation_mark
 
+-- what HTML doesn't have as it is of a code span: `&`, `<`, `>`, `"` and a line feed; and a backtick, which ends it
+abbrev pub is_changed_in_code : ℕ → Bool
+is_changed_in_code b = b == 38 || b == 60 || b == 62 || b == 34 || b == 10 || b == 96
+
 -- a byte of the text between marks; if lines are wanted, a line feed has a mark
 abbrev pub stays_text : (lines : Bool) → ℕ → Bool
 stays_text lines b = not (is_escaped b) && not (lines && b == line_feed)
