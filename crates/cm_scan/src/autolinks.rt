@@ -1,5 +1,5 @@
 //! Autolinks in a text (CommonMark 0.31.2, 6.5 Autolinks).
-ghost use Rattle.std.specs.Prelude.{◌≡◌, ℕ, List, ◌≤◌, length, drop, option_map, IfSome, IsUtf8};
+ghost use Rattle.std.specs.Prelude.{◌≡◌, ℕ, List, ◌≤◌, not, length, drop, option_map, IfSome, IsUtf8};
 ghost use Rattle.std.specs.Str.{IsCharBoundary};
 ghost use Rattle.std.specs.List.{slice_range};
 ghost use Rattle.cm_text.specs.Addresses.{is_followed};
@@ -9,7 +9,8 @@ ghost use Rattle.cm_scan.specs.Scanned.{reading_of, autolink_with};
 
 use crate::autolink_contents::{Autolink, link_of};
 use crate::links::is_next;
-use cm_text::{Rules, is_followed};
+use cm_text::{ByteKind, Rules, is_followed, next_of};
+use std::simd::prelude::*;
 
 /// The autolink at a place in a text, which is the boundary of a character, and the place after its `>`
 /// (CommonMark 0.31.2, 6.5 Autolinks). None where there is none.
@@ -70,18 +71,34 @@ fn in_angles<'a>(text: &'a str, at: usize) -> Option<(&'a str, usize)>
     Some((&text[at + 1..end], end + 1))
 }
 
+/// Bytes that an autolink doesn't have.
+struct Outside;
+
+impl ByteKind for Outside {
+    ghost passes = { λ b. not (is_inside b) };
+
+    #[inline(always)]
+    fn contains(b: u8) -> bool {
+        !is_inside(b)
+    }
+
+    #[inline(always)]
+    fn lanes(lanes: u8x16) -> u64 {
+        let brackets = lanes.simd_eq(u8x16::splat(b'<')) | lanes.simd_eq(u8x16::splat(b'>'));
+        let others = lanes.simd_lt(u8x16::splat(b'!')) | lanes.simd_eq(u8x16::splat(127));
+        (brackets | others).to_bitmask()
+    }
+}
+
 /// The place after the bytes that may be in an autolink.
+#[inline(always)]
 fn after_inside(bytes: &[u8], from: usize) -> usize
     requires { from ≤ length bytes.now }
     ensures front { slice_range bytes.now from result ≡ front_of is_inside (drop from bytes.now) }
     ensures skipped { drop result bytes.now ≡ skip is_inside (drop from bytes.now) }
     ensures within { (from ≤ result) × (result ≤ length bytes.now) }
 {
-    let mut end = from;
-    while end < bytes.len() && is_inside(bytes[end]) {
-        end += 1;
-    }
-    end
+    next_of::<Outside>(bytes, from)
 }
 
 /// Whether a byte may be in an autolink.

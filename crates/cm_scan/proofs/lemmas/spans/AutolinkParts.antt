@@ -1,6 +1,10 @@
 -- Autolinks in a text, part by part.
 use Rattle.std.proofs.Common.{◌≡◌, ℕ, zero, suc, ◌+◌, ◌-◌, ◌<◌, ◌≤◌, ◌==◌, ◌&&◌, ◌||◌, not, Bool, true, false, List, [], ◌∷◌, ◌++◌, length, take, drop, get_or, Option, Some, None, codes, IsUtf8, refl, sym, ap, ◌∙◌, arith, add-one, append_assoc, drop-cons, length-take-le}
-use Rattle.std.specs.List.{slice_range, list_all}
+use Rattle.std.specs.List.{slice_range, list_all, position_or_len}
+use Rattle.std.specs.Prelude.{cond}
+use Rattle.std.proofs.Common.{drop-drop, length-drop}
+use Rattle.std.proofs.lemmas.List.Sums.{prefix_len-le-length}
+use Rattle.cm_text.specs.Search.{next_place}
 use Rattle.std.specs.Str.{IsCharBoundary}
 use Rattle.std.proofs.lemmas.List.{append-nil, drop_all}
 use Rattle.std.proofs.lemmas.Bool.Decides.{nat_tests}
@@ -286,3 +290,33 @@ link-outside bs h = ap (λ o. elim o as (λ _. Option Autolink) [ Some r ↦ as_
 pub link-inside : (bs : List ℕ) (r : Reading) → Some r ≡ in_angles bs → as_autolink r ≡ autolink bs
 unfolding autolink
 link-inside bs r h = ap (λ o. elim o as (λ _. Option Autolink) [ Some r ↦ as_autolink r | None ↦ None ]) h
+
+-- the first byte outside of what passes
+outside-is : (test : ℕ → Bool) (text : List ℕ) → (take (position_or_len (λ b. not (test b)) text) text ≡ front_of test text) × (drop (position_or_len (λ b. not (test b)) text) text ≡ skip test text)
+unfolding front_of skip
+outside-is test [] = (refl, refl)
+outside-is test (b ∷ bs) = go (test b) (outside-is test bs)
+  where
+    go : (v : Bool) → (take (position_or_len (λ c. not (test c)) bs) bs ≡ front_of test bs) × (drop (position_or_len (λ c. not (test c)) bs) bs ≡ skip test bs)
+        → (take (cond (not (not v)) (1 + position_or_len (λ c. not (test c)) bs) 0) (b ∷ bs) ≡ elim v [ true ↦ b ∷ front_of test bs | false ↦ [] ])
+        × (drop (cond (not (not v)) (1 + position_or_len (λ c. not (test c)) bs) 0) (b ∷ bs) ≡ elim v [ true ↦ skip test bs | false ↦ b ∷ bs ])
+    go true rest =
+        let one : 1 + position_or_len (λ c. not (test c)) bs ≡ suc (position_or_len (λ c. not (test c)) bs) = omega arith in
+        (ap (λ k. take k (b ∷ bs)) one ∙ ap (λ t. b ∷ t) rest.0, ap (λ k. drop k (b ∷ bs)) one ∙ rest.1)
+    go false rest = (refl, refl)
+
+module _ (test : ℕ → Bool) (bytes : List ℕ) (from at : ℕ) (low : from ≤ length bytes) (e : at ≡ next_place (λ b. not (test b)) bytes from) where
+  outside-place : at ≡ from + position_or_len (λ b. not (test b)) (drop from bytes)
+  outside-place = omega (arith, low, e, length-drop from bytes, prefix_len-le-length (λ b. not (not (test b))) (drop from bytes))
+
+  pub outside-front : slice_range bytes from at ≡ front_of test (drop from bytes)
+  outside-front =
+      let count : at - from ≡ position_or_len (λ b. not (test b)) (drop from bytes) = omega (arith, outside-place) in
+      ap (λ k. take k (drop from bytes)) count ∙ (outside-is test (drop from bytes)).0
+
+  pub outside-skipped : drop at bytes ≡ skip test (drop from bytes)
+  outside-skipped =
+      ap (λ k. drop k bytes) outside-place ∙ sym (drop-drop (position_or_len (λ b. not (test b)) (drop from bytes)) from bytes) ∙ (outside-is test (drop from bytes)).1
+
+  pub outside-within : (from ≤ at) × (at ≤ length bytes)
+  outside-within = (omega (arith, outside-place), omega (arith, e))
