@@ -1,4 +1,4 @@
-use Rattle.cm_inline.proofs.lemmas.Words.{◌≡◌, ◌≤◌, ◌++◌, List, ℕ, sym, ap, ◌∙◌, arith, append_assoc, next_place}
+use Rattle.cm_inline.proofs.lemmas.Words.{◌≤◌, ◌++◌, List, ℕ, sym, ap, ◌∙◌, arith, append_assoc, next_place}
 use Rattle.cm_html.specs.Elements.{start_tag, end_tag}
 use Rattle.cm_html.specs.declared.elements.Element.TheVariants.{Code}
 use Rattle.cm_inline.specs.steps.Marks.{is_changed_in_code}

@@ -1,7 +1,7 @@
 use Rattle.cm_inline.proofs.lemmas.Words.{◌≡◌, ◌+◌, ◌<◌, Err, length, drop, get_or, refl, ap, subst, ◌∙◌, arith, get_or_read, InlinesTooDeep}
 use Rattle.cm_inline.proofs.lemmas.DeeperLemmas.{same-fault}
 use Rattle.cm_inline.proofs.lemmas.StateLemmas.{from-zero}
-use Rattle.cm_inline.proofs.lemmas.PassLoopLemmas.{Reaching, passing-first, reaching-first, waits-at, can-step, passing-step, reaching-step, reaching-deep, passes-none, passes-all}
+use Rattle.cm_inline.proofs.lemmas.PassLoopLemmas.{Reaching, passing-first, reaching-first, waits-at, can-step, passing-step, reaching-step, reaching-deep, passes-all}
 use Rattle.cm_inline.proofs.runs.Runs.pair_waiting.Goals as goal
 
 pub loop-at-init : goal.loop-at-init
