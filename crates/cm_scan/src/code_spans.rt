@@ -34,10 +34,7 @@ fn first_backtick(bytes: &[u8]) -> Option<usize>
     ensures { IsFirstByte (is_byte 96) bytes.now result }
 {
     let at = next_of::<Backtick>(bytes, 0);
-    if at == bytes.len() {
-        return None;
-    }
-    Some(at)
+    (at < bytes.len()).then_some(at)
 }
 
 /// The code span at a place in a text, which is the boundary of a character: what is between its two backtick

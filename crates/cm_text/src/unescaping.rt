@@ -10,12 +10,27 @@ ghost use Rattle.cm_text.specs.Unescaping.{escape, special, unescape};
 use crate::characters::is_ascii_punct;
 use crate::device::NoMemory;
 use crate::references::{Chars, reference};
-use memchr::memchr2;
+use crate::search::{ByteKind, next_of};
 use std::alloc::{AllocError, Global};
 use std::borrow::CowStr;
+use std::simd::prelude::*;
 
-/// How many bytes a text has at most that is searched in a loop.
-const SHORT: usize = 24;
+/// A backslash, and an ampersand: escapes and references start with one.
+struct Unescaped;
+
+impl ByteKind for Unescaped {
+    ghost passes = { is_byte2 92 38 };
+
+    #[inline(always)]
+    fn contains(b: u8) -> bool {
+        b == b'\\' || b == b'&'
+    }
+
+    #[inline(always)]
+    fn lanes(lanes: u8x16) -> u64 {
+        (lanes.simd_eq(u8x16::splat(b'\\')) | lanes.simd_eq(u8x16::splat(b'&'))).to_bitmask()
+    }
+}
 
 /// A text with its backslash escapes and references resolved, as those of destinations, titles and info
 /// strings are (CommonMark 0.31.2, 2.4 Backslash escapes and 2.5 Entity and numeric character references).
@@ -56,21 +71,14 @@ pub fn unescape_or_lend(alloc: Global, text: &str) -> Result<CowStr<'_, Global>,
     }
 }
 
-/// The first place of a backslash or an ampersand. Most destinations and titles are so short that a loop
-/// costs less than a call of `memchr2`.
+/// The first place of a backslash or an ampersand. Most destinations and titles are so short that a call of
+/// `memchr2` takes more.
 #[inline(always)]
 fn first_special(text: &[u8]) -> Option<usize>
     ensures { IsFirstByte (is_byte2 92 38) text.now result }
 {
-    if text.len() > SHORT {
-        return memchr2(b'\\', b'&', text);
-    }
-    for at in 0..text.len() {
-        if text[at] == b'\\' || text[at] == b'&' {
-            return Some(at);
-        }
-    }
-    None
+    let at = next_of::<Unescaped>(text, 0);
+    (at < text.len()).then_some(at)
 }
 
 /// Writes the result of the escape or the reference at the start, or the one byte there. Returns the number

@@ -1,9 +1,6 @@
-use Rattle.cm_scan.proofs.lemmas.spans.BacktickStrings.{first-tick, no-tick}
+use Rattle.memchr.specs.Find.{is_byte}
+use Rattle.cm_text.proofs.lemmas.SearchLemmas.{first-byte}
 use Rattle.cm_scan.proofs.code_spans.first_backtick.Goals as goal
-use Rattle.std.proofs.Common.{arith}
-
-pub returns-then-at-bytes : goal.returns-then-at-bytes
-returns-then-at-bytes c = no-tick c.args.bytes.now c.next_of-at.result c.next_of-at.ensures c.if-at-bytes.true
 
 pub returns : goal.returns
-returns c = first-tick c.args.bytes.now c.next_of-at.result c.next_of-at.ensures (omega (arith, c.next_of-at.ensures, c.if-at-bytes.false))
+returns c = first-byte (is_byte 96) c.args.bytes.now c.next_of-at.result c.then_some.result c.next_of-at.ensures c.then_some.ensures

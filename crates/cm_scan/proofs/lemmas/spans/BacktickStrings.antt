@@ -1,9 +1,7 @@
 -- Backtick strings, found one after another.
 use Rattle.std.proofs.Common.{◌≡◌, ℕ, zero, suc, ◌+◌, ◌-◌, ◌<◌, ◌≤◌, ◌==◌, ◌&&◌, not, Bool, true, false, List, [], ◌∷◌, ◌++◌, length, take, drop, get_or, Option, Some, None, refl, sym, ap, ◌∙◌, arith, eq-eqb, drop-drop, take-add, append_assoc, drop-cons, length-drop, get_or-drop, subst}
 use Rattle.memchr.specs.Find.{IsFirstByte, is_byte}
-use Rattle.std.specs.List.{slice_range, position_or_len}
-use Rattle.std.proofs.lemmas.List.Sums.{fails_before_first, passes_at_first}
-use Rattle.cm_text.specs.Search.{next_place}
+use Rattle.std.specs.List.{slice_range}
 use Rattle.std.proofs.lemmas.List.{append-nil, drop_all}
 use Rattle.std.proofs.lemmas.Bool.{eqb-true}
 use Rattle.cm_scan.specs.Words.{run_length, after_run}
@@ -27,32 +25,12 @@ ahead-ahead : (front more : List ℕ) (o : Option Reading) → ahead front (ahea
 ahead-ahead front more None = refl
 ahead-ahead front more (Some r) = ap (λ t. Some (record { text = t; rest = r.rest })) (sym (append_assoc front more r.text))
 
-true-or-false : true ≡ false → ⊥
-true-or-false e = grind (arith, e)
-
 pub not-same : (b c : ℕ) → (b ≡ c → ⊥) → (b == c) ≡ false
 not-same b c other = go (b == c) refl
   where
     go : (v : Bool) → (b == c) ≡ v → v ≡ false
     go true h = absurd (other (eqb-true b c h))
     go false h = refl
-
--- the place that a search for backticks finds
-pub first-tick : (bytes : List ℕ) (at : ℕ) → at ≡ next_place (is_byte 96) bytes 0 → at < length bytes → IsFirstByte (is_byte 96) bytes (Some at)
-first-tick bytes at e some =
-    let place : position_or_len (is_byte 96) bytes ≡ at = omega (arith, e, some) in
-    let passes = passes_at_first (is_byte 96) bytes 0 (omega (arith, place, some)) in (
-      record {
-        low = omega arith;
-        high = some;
-        before = λ k low below tick. true-or-false (sym tick ∙ fails_before_first (is_byte 96) bytes k 0 (omega (arith, place, below)));
-      },
-      ap (λ n. is_byte 96 (get_or bytes n 0)) (sym place) ∙ passes,
-    )
-
-pub no-tick : (bytes : List ℕ) (at : ℕ) → at ≡ next_place (is_byte 96) bytes 0 → at ≡ length bytes → IsFirstByte (is_byte 96) bytes None
-no-tick bytes at e end = λ k low below tick.
-    true-or-false (sym tick ∙ fails_before_first (is_byte 96) bytes k 0 (omega (arith, e, end, below)))
 
 -- the next backtick
 pub record Found (text : List ℕ) (at plain : ℕ) : Type 0 where
