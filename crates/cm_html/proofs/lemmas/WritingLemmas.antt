@@ -4,17 +4,15 @@ use Rattle.std.specs.Io.KnownBytes.{Appends}
 use Rattle.std.proofs.Math.Seq.{drop-cons, take-append-add}
 use Rattle.std.proofs.lemmas.List.{take-append-le}
 use Rattle.std.specs.Prelude.{Result, Ok, Err, Option, Some, None, flat_map}
-use Rattle.std.specs.List.{position, slice_range, concat}
+use Rattle.std.specs.List.{position}
 use Rattle.std.proofs.lemmas.Grind.{common_steps}
-use Rattle.std.proofs.lemmas.List.Concat.{flat_map-append}
 use Rattle.std.proofs.lemmas.List.Quantifiers.{position-Some}
 use Rattle.cm_text.proofs.lemmas.ReplacedLemmas.{Keeps, replaced-found}
 use Rattle.cm_text.specs.DeviceViews.{SinkView}
 use Rattle.cm_text.specs.Writing.{Wrote}
 use Rattle.cm_text.specs.declared.writing.WriteFailed.{WriteFailed}
 use Rattle.cm_text.proofs.lemmas.WriteLemmas.{appends-append}
-use Rattle.cm_html.specs.steps.Pages.{Added, Adds, WritesMore, with_insertions}
-use Rattle.cm_html.specs.declared.page.Insertion.{Insertion}
+use Rattle.cm_html.specs.steps.Pages.{Added, Adds, WritesMore}
 use Rattle.cm_html.specs.declared.outgoing.Outgoing.{Outgoing}
 
 -- what is written after what was written
@@ -162,17 +160,3 @@ pub next_item : {A : Type 0} (xs : List A) (at : ℕ) (x : A) → at < length xs
 next_item xs at x low here =
     let next : suc at ≡ at + 1 = omega arith in
     drop-cons xs at x low ∙ ap₂ (λ first n. first ∷ drop n xs) here next
-
--- the page at a place is written before those after it
-pub page_first : (f : ℕ → List ℕ) (pages : List (List ℕ)) (at : ℕ) (page : List ℕ) → at < length pages → get_or pages at page ≡ page
-    → flat_map f page ++ flat_map f (concat (drop (at + 1) pages)) ≡ flat_map f (concat (drop at pages))
-page_first f pages at page low here = sym (flat_map-append f page (concat (drop (at + 1) pages))) ∙ ap (λ ps. flat_map f (concat ps)) (sym (next_item pages at page low here))
-
--- the text up to an insertion, and what is inserted, before what comes next
-pub insertion_first : (f : ℕ → List ℕ) (from at : ℕ) (text inserted : List ℕ) (is : List Insertion) (i : Insertion) → at < length is → get_or is at i ≡ i → inserted ≡ i.text
-    → flat_map f (slice_range text from i.place ++ inserted) ++ flat_map f (with_insertions i.place text (drop (at + 1) is)) ≡ flat_map f (with_insertions from text (drop at is))
-insertion_first f from at text inserted is i low here same =
-    let others = with_insertions i.place text (drop (at + 1) is) in
-    sym (flat_map-append f (slice_range text from i.place ++ inserted) others)
-    ∙ ap (λ t. flat_map f ((slice_range text from i.place ++ t) ++ others)) same
-    ∙ ap (λ l. flat_map f (with_insertions from text l)) (sym (next_item is at i low here))

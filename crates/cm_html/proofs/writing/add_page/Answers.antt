@@ -1,8 +1,10 @@
 use Rattle.std.proofs.Common.{rules, ◌≡◌, ◌∙◌, ◌++◌, ◌+◌, ◌<◌, ◌∷◌, ap, drop, get_or, length, subst, sym, arith, flat_map}
 use Rattle.std.proofs.lemmas.List.{drop_all, take_rest}
+use Rattle.std.proofs.lemmas.List.Concat.{flat_map-append}
+use Rattle.std.specs.List.{slice_range}
 use Rattle.cm_html.specs.steps.Pages.{Adds, AreInOrder, with_insertions}
 use Rattle.cm_html.proofs.lemmas.PageLemmas.{first_place}
-use Rattle.cm_html.proofs.lemmas.WritingLemmas.{insertion_first, last_sent, left_fits, next_item, next_lost, next_sent, piece_fits}
+use Rattle.cm_html.proofs.lemmas.WritingLemmas.{last_sent, left_fits, next_item, next_lost, next_sent, piece_fits}
 use Rattle.cm_html.proofs.writing.add_page.Goals as goal
 
 pub slice_bounds-add_texts-end : goal.slice_bounds-add_texts-end
@@ -18,36 +20,59 @@ slice_bounds-add_texts-end g c =
 
 pub add_texts-requires-clause-counted : goal.add_texts-requires-clause-counted
 add_texts-requires-clause-counted g c =
+    let f = g.K.Replaced.written in
     let is = c.as_slice-insertions.result.now in
     let at = c.loop-insertion.insertion-index in
+    let text = c.as_bytes-text.result.now in
     let i = c.insertion-item.result in
+    let from = c.loop-insertion.from in
     let here : get_or is at i ≡ i = search rules in
-    piece_fits c.args.out.now c.loop-insertion.out _ _ _ _ c.loop-insertion.invariant.left _ _
-    (insertion_first g.K.Replaced.written c.loop-insertion.from at c.as_bytes-text.result.now c.as_bytes-inserted.result.now is i c.loop-insertion-test.true here
-    (c.as_bytes-inserted.ensures.value ∙ c.as_str.ensures)) _ c.requires.counted
+    let inserted : c.as_bytes-inserted.result.now ≡ i.text = c.as_bytes-inserted.ensures.value ∙ c.as_str.ensures in
+    let piece = slice_range text from i.place ++ c.as_bytes-inserted.result.now in
+    let others = with_insertions i.place text (drop (at + 1) is) in
+    piece_fits c.args.out.now c.loop-insertion.out _ _ _ _ c.loop-insertion.invariant.left (flat_map f piece) (flat_map f others)
+    (sym (flat_map-append f piece others)
+    ∙ ap (λ t. flat_map f ((slice_range text from i.place ++ t) ++ others)) inserted
+    ∙ ap (λ l. flat_map f (with_insertions from text l)) (sym (next_item is at i c.loop-insertion-test.true here))) _ c.requires.counted
 
 pub returns-in-Err : goal.returns-in-Err
 returns-in-Err g c =
+    let f = g.K.Replaced.written in
     let is = c.as_slice-insertions.result.now in
     let at = c.loop-insertion.insertion-index in
+    let text = c.as_bytes-text.result.now in
     let i = c.insertion-item.result in
+    let from = c.loop-insertion.from in
     let here : get_or is at i ≡ i = search rules in
-    next_lost c.args.out.now c.loop-insertion.out _ _ _ _ c.loop-insertion.invariant.left _ _
-    (insertion_first g.K.Replaced.written c.loop-insertion.from at c.as_bytes-text.result.now c.as_bytes-inserted.result.now is i c.loop-insertion-test.true here
-    (c.as_bytes-inserted.ensures.value ∙ c.as_str.ensures)) c.add_texts.new.self _ c.in-Err.failed c.in-Err.ensures
+    let inserted : c.as_bytes-inserted.result.now ≡ i.text = c.as_bytes-inserted.ensures.value ∙ c.as_str.ensures in
+    let piece = slice_range text from i.place ++ c.as_bytes-inserted.result.now in
+    let others = with_insertions i.place text (drop (at + 1) is) in
+    next_lost c.args.out.now c.loop-insertion.out _ _ _ _ c.loop-insertion.invariant.left (flat_map f piece) (flat_map f others)
+    (sym (flat_map-append f piece others)
+    ∙ ap (λ t. flat_map f ((slice_range text from i.place ++ t) ++ others)) inserted
+    ∙ ap (λ l. flat_map f (with_insertions from text l)) (sym (next_item is at i c.loop-insertion-test.true here)))
+    c.add_texts.new.self _ c.in-Err.failed c.in-Err.ensures
 
 pub loop-insertion-preserved : goal.loop-insertion-preserved
 loop-insertion-preserved g c =
+    let f = g.K.Replaced.written in
     let is = c.as_slice-insertions.result.now in
     let at = c.loop-insertion.insertion-index in
+    let text = c.as_bytes-text.result.now in
     let i = c.insertion-item.result in
+    let from = c.loop-insertion.from in
     let here : get_or is at i ≡ i = search rules in
-    let order : AreInOrder c.loop-insertion.from c.as_bytes-text.result.now (i ∷ drop (at + 1) is) =
-    subst (AreInOrder c.loop-insertion.from c.as_bytes-text.result.now) (next_item is at i c.loop-insertion-test.true here) c.loop-insertion.invariant.order in
+    let inserted : c.as_bytes-inserted.result.now ≡ i.text = c.as_bytes-inserted.ensures.value ∙ c.as_str.ensures in
+    let split : drop at is ≡ i ∷ drop (at + 1) is = next_item is at i c.loop-insertion-test.true here in
+    let piece = slice_range text from i.place ++ c.as_bytes-inserted.result.now in
+    let others = with_insertions i.place text (drop (at + 1) is) in
+    let order : AreInOrder from text (i ∷ drop (at + 1) is) = subst (AreInOrder from text) split c.loop-insertion.invariant.order in
     record {
-      left = next_sent c.args.out.now c.loop-insertion.out _ _ _ _ c.loop-insertion.invariant.left _ _
-          (insertion_first g.K.Replaced.written c.loop-insertion.from at c.as_bytes-text.result.now c.as_bytes-inserted.result.now is i c.loop-insertion-test.true here
-          (c.as_bytes-inserted.ensures.value ∙ c.as_str.ensures)) c.add_texts.new.self _ c.in-Ok.ensures;
+      left = next_sent c.args.out.now c.loop-insertion.out _ _ _ _ c.loop-insertion.invariant.left (flat_map f piece) (flat_map f others)
+          (sym (flat_map-append f piece others)
+          ∙ ap (λ t. flat_map f ((slice_range text from i.place ++ t) ++ others)) inserted
+          ∙ ap (λ l. flat_map f (with_insertions from text l)) (sym split))
+          c.add_texts.new.self _ c.in-Ok.ensures;
       order = order.2;
     }
 
