@@ -1,8 +1,8 @@
 //! A text in pages, each with its own memory.
 //!
 //! A page is as long as a part of a raw tree, so that the HTML can go into memory that the parts had.
-ghost use Rattle.std.specs.Prelude.{◌≡◌, ◌+◌, ◌-◌, ◌^◌, ◌<◌, [], ◌++◌};
-ghost use Rattle.std.specs.Prelude.{ℕ, length, string_bytes, IfOk, OnOk, IfSome};
+ghost use Rattle.std.specs.Prelude.{◌≡◌, ◌+◌, ◌-◌, ◌*◌, ◌^◌, ◌<◌, ◌≤◌, [], ◌++◌};
+ghost use Rattle.std.specs.Prelude.{ℕ, length, flat_map, string_bytes, IfOk, OnOk, IfSome, IsTrue};
 ghost use Rattle.std.specs.List.{concat};
 ghost use Rattle.std.specs.Fmt.{decimal};
 ghost use Rattle.cm_html.specs.Escape.{escape};
@@ -12,7 +12,9 @@ ghost use Rattle.cm_html.specs.Writing.{WritesText};
 
 use crate::fault::HtmlFault;
 use crate::forms::{Form, FormedTexts};
+use crate::outgoing::Outgoing;
 use crate::page::Page;
+use crate::phrases::{NoPhrases, Phrases};
 use crate::writing::write_pages;
 use cm_text::{Sink, WriteFailed};
 use cm_tree::BoxedText;
@@ -216,12 +218,43 @@ impl Pages {
         requires { (W.seen sink.old).failed < 2 ^ 64 - 1 }
         ensures { WritesText result self.now (W.seen sink.old) (W.seen sink.new) }
     {
+        self.send::<NoPhrases, W>(sink, 1, 0)
+    }
+
+    /// Writes the text with each phrase in the place of the byte that is held for it. Returns how many bytes
+    /// were written.
+    ///
+    /// # Errors
+    ///
+    /// As `write`, and `HtmlFault::NoMemory` if a request for memory was refused: then nothing was written.
+    pub fn write_phrases<K: Phrases, W: Sink>(&self, sink: &mut W) -> Result<usize, HtmlFault>
+        requires short { (b : ℕ) → length (K.written b) ≤ 64 }
+        requires failed { (W.seen sink.old).failed < 2 ^ 64 - 1 }
+        ensures { WritesText result (flat_map K.written self.now) (W.seen sink.old) (W.seen sink.new) }
+    {
+        self.send::<K, W>(sink, 64, PAGE)
+    }
+
+    /// The same, for phrases of at most `longest` bytes. Up to `room` bytes wait to be written together.
+    fn send<K: Phrases, W: Sink>(
+        &self,
+        sink: &mut W,
+        longest: usize,
+        room: usize,
+    ) -> Result<usize, HtmlFault>
+        requires short { (b : ℕ) → length (K.written b) ≤ longest }
+        requires failed { (W.seen sink.old).failed < 2 ^ 64 - 1 }
+        ensures { WritesText result (flat_map K.written self.now) (W.seen sink.old) (W.seen sink.new) }
+    {
         let full = self.full.as_slice();
-        let Some(len) = len_of(full, &self.last) else {
+        if !is_countable(full, &self.last, longest) {
+            return Err(HtmlFault::NoMemory);
+        }
+        let Ok(mut out) = Outgoing::new(self.alloc, room) else {
             return Err(HtmlFault::NoMemory);
         };
-        match write_pages(sink, full, &self.last) {
-            Ok(_) => Ok(len),
+        match write_pages::<K, W>(&mut out, sink, full, &self.last) {
+            Ok(len) => Ok(len),
             Err(WriteFailed { written }) => Err(HtmlFault::WriteFailed { written }),
         }
     }
@@ -251,6 +284,16 @@ impl Pages {
         }
     }
 }
+/// Whether a `usize` counts the bytes of pages, if each is held for up to `longest` bytes.
+fn is_countable(full: &[Page], last: &Page, longest: usize) -> bool
+    ensures { IsTrue result → longest * length (concat full.now ++ last.now) < 2 ^ 64 }
+{
+    match len_of(full, last) {
+        Some(len) => longest.checked_mul(len).is_some(),
+        None => false,
+    }
+}
+
 /// How many bytes the full pages and the last one have.
 fn len_of(full: &[Page], last: &Page) -> Option<usize>
     ensures { IfSome result (λ n. n ≡ length (concat full.now ++ last.now)) }

@@ -1,5 +1,5 @@
 -- Three pieces written one after another.
-use Rattle.std.proofs.Common.{◌≡◌, ℕ, List, ◌++◌, Result, OnOk, arith, ap, ◌∙◌, append_assoc}
+use Rattle.std.proofs.Common.{◌≡◌, ℕ, List, ◌++◌, Result, OnOk, ap, ◌∙◌, append_assoc}
 use Rattle.std.specs.Prelude.{Ok, Err}
 
 pub enclosed : {T E : Type 0} (r : Result T E) (old start middle end one two new : List ℕ) → one ≡ old ++ start → two ≡ one ++ middle → OnOk r (new ≡ two ++ end) → OnOk r (new ≡ old ++ (start ++ middle ++ end))

@@ -6,6 +6,7 @@ use Rattle.cm_text.specs.DeviceViews.{SinkView}
 use Rattle.cm_text.specs.Writing.{Wrote, WroteFront}
 use Rattle.cm_text.specs.declared.writing.WriteFailed.{WriteFailed}
 use Rattle.cm_html.specs.declared.page.Insertion.{Insertion}
+use Rattle.cm_html.specs.declared.outgoing.Outgoing.{Outgoing}
 
 -- what is in the text from a place on
 abbrev pub with_insertions : (from : ℕ) → List ℕ → List Insertion → List ℕ
@@ -21,3 +22,15 @@ AreInOrder from text (i ∷ is) = IsCharBoundary text from × (from ≤ i.place)
 abbrev pub WritesMore : Result ℕ WriteFailed → (written : ℕ) → (piece : List ℕ) → SinkView → SinkView → Type 0
 WritesMore (Ok n) written piece old new = Wrote old new piece 0 × (n ≡ written + length piece)
 WritesMore (Err failed) written piece old new = (front : ℕ) × WroteFront old new piece front × (failed.written ≡ written + front)
+
+-- what waited and this piece are written or wait now, and no write failed
+pub record Added (old new : Outgoing) (piece : List ℕ) (from to : SinkView) : Type 0 where
+  pub gone : List ℕ
+  pub parts : gone ++ new.waiting.items ≡ old.waiting.items ++ piece
+  pub counted : new.written ≡ old.written + length gone
+  pub wrote : Wrote from to gone 0
+
+-- that, or a write failed after a prefix of what waited and the piece
+abbrev pub Adds : {T : Type 0} → Result T WriteFailed → Outgoing → Outgoing → (piece : List ℕ) → SinkView → SinkView → Type 0
+Adds (Ok x) old new piece from to = Added old new piece from to
+Adds (Err failed) old new piece from to = WritesMore (Err failed) old.written (old.waiting.items ++ piece) from to

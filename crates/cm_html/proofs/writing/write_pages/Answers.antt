@@ -1,7 +1,9 @@
+use Rattle.std.proofs.Common.{◌++◌, flat_map}
 use Rattle.std.specs.List.{concat}
-use Rattle.cm_html.proofs.lemmas.WritingLemmas.{behind}
+use Rattle.cm_html.proofs.lemmas.WritingLemmas.{finished}
 use Rattle.cm_html.proofs.writing.write_pages.Goals as goal
 
-pub returns : goal.returns
-returns g c =
-    behind _ _ _ (concat c.args.full.now) c.args.last.now c.in_ok-written.ensures.0 c.write_page.result 0 c.in_ok-written.written c.in_ok-written.ensures.1 c.write_page.ensures
+pub returns-in-Ok : goal.returns-in-Ok
+returns-in-Ok g c =
+    finished c.args.out.now c.add_all.new.out (flat_map g.K.Phrases.written (concat c.args.full.now ++ c.args.last.now)) _ _ _ c.requires.waiting c.requires.written c.in-Ok.ensures
+    c.finish.result c.finish.ensures

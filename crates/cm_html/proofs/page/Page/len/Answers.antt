@@ -1,4 +1,4 @@
-use Rattle.std.proofs.Common.{rules, ◌≡◌, ◌+◌, [], ◌∙◌, ap, arith, drop, length, string_bytes}
+use Rattle.std.proofs.Common.{rules, ◌≡◌, ap, arith, drop, length, string_bytes}
 use Rattle.std.proofs.lemmas.List.{drop_all}
 use Rattle.cm_html.proofs.lemmas.PageLemmas.{length_page, lengths}
 use Rattle.cm_html.proofs.page.Page.len.Goals as goal
