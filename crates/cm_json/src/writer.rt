@@ -7,8 +7,8 @@ ghost use Rattle.cm_json.specs.SameDocuments.{is_in_range};
 ghost use Rattle.cm_json.specs.Writer.{whole_with, IsWithin};
 
 use crate::blocks::{push_block, push_root_start};
+use crate::json_text::JsonText;
 use crate::members::push_comma;
-use cm_html::Pages;
 use cm_tree::{Block, Owner};
 use std::alloc::AllocError;
 
@@ -18,7 +18,7 @@ use std::alloc::AllocError;
 /// `new` was given; it can be freed then. `finish` returns the JSON, which is that of `json` for all of them.
 #[derive(Drop)]
 pub struct JsonWriter {
-    json: Pages,
+    json: JsonText,
     /// How many lines are passed.
     passed: usize,
     /// Whether a block has been written.
@@ -31,7 +31,7 @@ impl JsonWriter {
     /// # Errors
     ///
     /// `AllocError` if a request for memory was refused. The same holds for all calls.
-    pub fn new(json: Pages, owners: &[Owner]) -> Result<JsonWriter, AllocError>
+    pub fn new(json: JsonText, owners: &[Owner]) -> Result<JsonWriter, AllocError>
         ensures whole { IfOk result (λ writer. (blocks : List trees.Block)
             → whole_with writer owners.now blocks ≡ json ++ json_of blocks owners.now) }
         ensures within { IfOk result (λ writer. IsWithin writer owners.now) }
@@ -69,7 +69,7 @@ impl JsonWriter {
     /// # Errors
     ///
     /// As `new`.
-    pub fn finish(self) -> Result<Pages, AllocError>
+    pub fn finish(self) -> Result<JsonText, AllocError>
         ensures { IfOk result (λ json. (owners : List lines.Owner) → json ≡ whole_with self owners []) }
     {
         let mut json = self.json;

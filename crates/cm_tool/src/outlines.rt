@@ -16,6 +16,7 @@ mod plain_source;
 use crate::fault::Fault;
 use cm_block::Outline;
 use cm_html::Pages;
+use cm_json::JsonText;
 use cm_source::Why;
 use cm_text::Limits;
 use cm_tree::Doc;
@@ -81,14 +82,14 @@ pub(crate) fn listing_of_outline(
     leaves_listing(alloc, limits, definitions, blocks, owners)
 }
 
-/// The JSON of an outline's document, in pages.
+/// The JSON of an outline's document.
 pub(crate) fn json_of_outline(
     alloc: Global,
     limits: Limits,
     outline: Outline,
-) -> Result<Pages, Fault>
+) -> Result<JsonText, Fault>
     ensures { (bytes : List ℕ) → IsOutline limits bytes outline
-        → Makes (λ pages. (pages ≡ in_json limits.rules bytes) × IsTreeInJson limits.rules bytes)
+        → Makes (λ json. (json ≡ in_json limits.rules bytes) × IsTreeInJson limits.rules bytes)
         result limits bytes }
 {
     let Outline {

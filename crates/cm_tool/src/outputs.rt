@@ -78,7 +78,7 @@ pub(crate) fn write_json<R: Source, W: Sink>(
 {
     let outline = outline_of(alloc, source, limits)?;
     let mut json = json_of_outline(alloc, limits, outline)?;
-    json.push_str("\n")?;
+    json.push_line_feed()?;
     Ok(json.write(sink)?)
 }
 

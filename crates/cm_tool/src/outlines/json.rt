@@ -11,8 +11,7 @@ ghost use Rattle.cm_tool.specs.steps.LeafWalks.{all_left, ArePlacedLeft, HasRead
 use crate::fault::Fault;
 use crate::outlines::leaf_walk::LeafWalk;
 use cm_block::LineOwners;
-use cm_html::Pages;
-use cm_json::JsonWriter;
+use cm_json::{JsonText, JsonWriter};
 use cm_text::Limits;
 use cm_tree::{Definitions, Owner, RawTree};
 use std::alloc::Global;
@@ -45,8 +44,8 @@ impl JsonWalk {
     }
 }
 
-/// The JSON of the blocks with the inlines of their leaves, whose lines have these owners, in pages. The
-/// inlines of one block are freed before those of the next one are read.
+/// The JSON of the blocks with the inlines of their leaves, whose lines have these owners. The inlines of one
+/// block are freed before those of the next one are read.
 ///
 /// # Errors
 ///
@@ -57,8 +56,8 @@ pub(crate) fn leaves_json(
     definitions: Definitions,
     blocks: RawTree,
     owners: LineOwners,
-) -> Result<Pages, Fault>
-    ensures json { IfOk result (λ pages. pages ≡
+) -> Result<JsonText, Fault>
+    ensures json { IfOk result (λ json. json ≡
         json_of (with_inlines limits.rules (defined_in definitions) blocks) owners) }
     ensures is_json { OnOk result (IsJson
         (json_of (with_inlines limits.rules (defined_in definitions) blocks) owners)
@@ -70,8 +69,8 @@ pub(crate) fn leaves_json(
 {
     let owners = owners.to_items(alloc)?;
     let owners = owners.as_slice();
-    let pages = Pages::new(alloc)?;
-    let json = JsonWriter::new(pages, owners)?;
+    let text = JsonText::new(alloc)?;
+    let json = JsonWriter::new(text, owners)?;
     let walk = LeafWalk::new(alloc, limits, definitions, blocks);
     let mut walk = JsonWalk { walk, json };
     walk.push_all(owners)?;

@@ -1,6 +1,7 @@
 use Rattle.std.proofs.Common.{codes}
+use Rattle.cm_json.specs.steps.Phrases.{expanded}
 use Rattle.cm_json.proofs.lemmas.Pushed.{at_last}
 use Rattle.cm_json.proofs.blocks.push_marker.Goals as goal
 
 pub returns : goal.returns
-returns c = at_last c.push_str-2.result _ _ _ (codes ",\"data\":{\"marker\":\"") c.args.marker.now c.in_ok-push_str.ensures c.push_str-2.ensures
+returns c = at_last c.push_str-2.result _ _ _ (codes ",\"data\":{\"marker\":\"") (expanded c.args.marker.now) c.in_ok-push_str.ensures c.push_str-2.ensures

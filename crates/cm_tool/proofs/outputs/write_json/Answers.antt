@@ -1,3 +1,4 @@
+use Rattle.std.proofs.Common.{rules}
 use Rattle.std.proofs.lemmas.Result.{err_from_is_err_and}
 use Rattle.cm_tool.proofs.lemmas.JsonLemmas.{json_lost, json_written}
 use Rattle.cm_tool.proofs.lemmas.ReadLemmas.{read_whole}
@@ -13,7 +14,7 @@ returns-in_err-write g c =
     rw (p.1, p.2) (
       bytes,
       outline.1,
-      json_lost limits bytes _ _ _ _ (read_whole limits c.in_ok-outline.outline _ _ bytes outline.2 json.0) c.in_ok-json.json _ json.1.0 json.1.1 c.in_ok-push_str.ensures
+      json_lost limits bytes _ _ _ _ (read_whole limits c.in_ok-outline.outline _ _ bytes outline.2 json.0) c.in_ok-json.json _ json.1.0 json.1.1 c.in_ok-push_line_feed.ensures
           c.in_err-write.field-0.0 c.in_err-write.ensures,
     )
 
@@ -25,6 +26,9 @@ returns g c =
     let json = c.in_ok-json.ensures bytes outline.2.2 in (
       bytes,
       outline.1,
-      json_written limits bytes _ _ _ _ (read_whole limits c.in_ok-outline.outline _ _ bytes outline.2 json.0) c.in_ok-json.json _ json.1.0 json.1.1 c.in_ok-push_str.ensures
+      json_written limits bytes _ _ _ _ (read_whole limits c.in_ok-outline.outline _ _ bytes outline.2 json.0) c.in_ok-json.json _ json.1.0 json.1.1 c.in_ok-push_line_feed.ensures
           c.in_ok-write.field-0 c.in_ok-write.ensures,
     )
+
+pub returns-in_err-json : goal.returns-in_err-json
+returns-in_err-json g c = search rules

@@ -26,7 +26,7 @@ returns-clause-json c =
     ∙ c.in_ok-push_all.ensures.whole
     ∙ ap (whole_with c.in_ok-json.json owners) c.new-walk.ensures.all
     ∙ c.in_ok-json.ensures.whole blocks
-    ∙ ap₂ (λ pages owners. pages ++ json_of blocks owners) c.in_ok-pages.ensures (c.as_slice-owners.ensures ∙ c.in_ok-owners.ensures)
+    ∙ ap₂ (λ text owners. text ++ json_of blocks owners) c.in_ok-text.ensures (c.as_slice-owners.ensures ∙ c.in_ok-owners.ensures)
 
 pub returns-clause-is_json : goal.returns-clause-is_json
 returns-clause-is_json c =
