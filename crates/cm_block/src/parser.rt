@@ -15,8 +15,9 @@ ghost use Rattle.cm_block.specs.declared.fault.BlockFault.TheVariants as block_f
 ghost use Rattle.cm_tree.specs.declared.raw_blocks.RawFault.TheVariants as raw_faults;
 ghost use Rattle.cm_block.specs.OpenLeaf.{no_leaf, open_text, is_open_text};
 ghost use Rattle.cm_block.specs.Machine.{in_leaf};
+ghost use Rattle.cm_block.specs.Level.{closed_blocks};
 ghost use Rattle.cm_block.specs.Stack.{close_open, own_open, push_line};
-ghost use Rattle.cm_block.specs.steps.FrameSteps.{quoted_by, closed_to};
+ghost use Rattle.cm_block.specs.steps.FrameSteps.{close_frames, closed_to, quoted_by};
 ghost use Rattle.cm_block.specs.LeafViews.{leaf_of};
 ghost use Rattle.cm_block.specs.steps.StartViews.{seen};
 ghost use Rattle.cm_block.specs.steps.FirstLines.{begins_container};
@@ -426,27 +427,34 @@ impl BlockParser {
         Ok(())
     }
 
-    /// The outline of the lines so far.
-    ///
-    /// # Errors
-    ///
-    /// The fault that a line met; `NoMemory` if a request for memory was refused, `TooLarge` if a place would
-    /// need more than 32 bits.
-    pub fn finish(mut self) -> Result<Outline, BlockFault>
-        ensures outline { IfOk result (λ outline. (lines : List LineView) → HasTaken self lines
-            → OutlineOf outline self.limits.rules lines) }
-        ensures tests { IfOk result (λ outline. (lines : List LineView) → HasTaken self lines →
-            TestsOf outline self.limits.blocks lines) }
-        ensures failed { (fault : faults.BlockFault) → self.fault ≡ Some fault → result ≡ Err fault }
-        ensures memory { self.fault ≡ None → IfErr result IsTooMuch }
+    /// Closes all that is open, unless a fault was met.
+    fn close(&mut self) -> Result<(), BlockFault>
+        ensures level { OnOk result (self.new.stack.level ≡ close_frames self.old.stack.frames
+            (close_open self.old.stack.level (in_leaf (leaf_of self.old.leaf)))) }
+        ensures owners { OnOk result (self.new.owners
+            ≡ own_open (quoted_by false self.old.stack.frames) self.old.owners
+            (in_leaf (leaf_of self.old.leaf))) }
+        ensures frames { OnOk result (self.new.stack.frames ≡ []) }
+        ensures tests { self.new.tests ≡ self.old.tests }
+        ensures limits { self.new.limits ≡ self.old.limits }
+        ensures failed { (fault : faults.BlockFault) → self.old.fault ≡ Some fault → result ≡ Err fault }
+        ensures memory { self.old.fault ≡ None → IfErr result IsTooMuch }
     {
         if let Some(met) = self.fault {
             return Err(met);
         }
         self.close_leaf()?;
-        self.stack.close_to(0)?;
-        // This number of lines, within this number of containers, is read less often than can be counted.
-        let _bounds = (self.owners.len(), self.limits.blocks());
+        Ok(self.stack.close_to(0)?)
+    }
+
+    /// The outline, if all is closed.
+    fn into_outline(self) -> Result<Outline, RawFault>
+        requires { self.stack.frames ≡ [] }
+        ensures blocks { IfOk result (λ outline. outline.blocks ≡ closed_blocks self.stack.level) }
+        ensures owners { IfOk result (λ outline. outline.owners ≡ self.owners.owners) }
+        ensures definitions { IfOk result (λ outline. outline.definitions ≡ self.owners.table) }
+        ensures tests { IfOk result (λ outline. outline.tests ≡ self.tests) }
+    {
         // These are all its fields: no line is kept.
         let BlockParser {
             alloc: _,
@@ -464,5 +472,25 @@ impl BlockParser {
             definitions,
             tests,
         })
+    }
+
+    /// The outline of the lines so far.
+    ///
+    /// # Errors
+    ///
+    /// The fault that a line met; `NoMemory` if a request for memory was refused, `TooLarge` if a place would
+    /// need more than 32 bits.
+    pub fn finish(mut self) -> Result<Outline, BlockFault>
+        ensures outline { IfOk result (λ outline. (lines : List LineView) → HasTaken self lines
+            → OutlineOf outline self.limits.rules lines) }
+        ensures tests { IfOk result (λ outline. (lines : List LineView) → HasTaken self lines →
+            TestsOf outline self.limits.blocks lines) }
+        ensures failed { (fault : faults.BlockFault) → self.fault ≡ Some fault → result ≡ Err fault }
+        ensures memory { self.fault ≡ None → IfErr result IsTooMuch }
+    {
+        self.close()?;
+        // This number of lines, within this number of containers, is read less often than can be counted.
+        let _bounds = (self.owners.len(), self.limits.blocks());
+        Ok(self.into_outline()?)
     }
 }
