@@ -8,8 +8,7 @@ ghost use Rattle.cm_tool.specs.Writing.{converted};
 
 use crate::example_files::{Example, examples_in};
 use crate::fault::Fault;
-use crate::reading::Parser;
-use cm_html::html;
+use crate::reading::html_of;
 use cm_text::{Limits, Rules};
 use std::alloc::{AllocError, Global};
 
@@ -120,8 +119,5 @@ fn rendered(alloc: Global, source: &str, limits: Limits) -> Result<String, Fault
         × (string_bytes html ≡ converted limits.rules source.now)) }
     ensures told { IfErr result (λ fault. TellsFault fault (fault_of limits source.now)) }
 {
-    let mut parser = Parser::new(alloc, limits);
-    parser.feed(source.as_bytes())?;
-    let doc = parser.finish()?;
-    Ok(html(alloc, &doc)?)
+    Ok(html_of(alloc, source.as_bytes(), limits)?.into_string()?)
 }

@@ -16,31 +16,42 @@ use cm_text::Limits;
 use cm_tree::{Definitions, Owner, RawTree};
 use std::alloc::Global;
 
-/// A walk over an outline, and the JSON of what has been read.
-#[derive(Drop)]
-struct JsonWalk {
-    walk: LeafWalk,
-    json: JsonWriter,
-}
-
-impl JsonWalk {
+impl LeafWalk {
     /// Adds the JSON of all blocks that are left.
-    fn push_all(&mut self, owners: &[Owner]) -> Result<(), Fault>
-        requires placed { ArePlacedLeft self.old.walk.unread }
-        requires within { IsWithin self.old.json owners.now }
-        ensures whole { OnOk result (whole_with self.new.json owners.now []
-            ≡ whole_with self.old.json owners.now (all_left self.old.walk.unread)) }
-        ensures in_range { OnOk result (are_in_range (all_left self.old.walk.unread) ≡ true) }
-        ensures passes { OnOk result (HasReadAll self.old.walk self.new.walk) }
-        ensures told { IfErr result (λ fault. TellsOf self.old.walk fault
-            (leaf_depths (all_left self.old.walk.unread))) }
+    fn push_json(&mut self, owners: &[Owner], json: &mut JsonWriter) -> Result<(), Fault>
+        requires placed { ArePlacedLeft self.old.unread }
+        requires within { IsWithin json.old owners.now }
+        ensures whole { OnOk result (whole_with json.new owners.now []
+            ≡ whole_with json.old owners.now (all_left self.old.unread)) }
+        ensures in_range { OnOk result (are_in_range (all_left self.old.unread) ≡ true) }
+        ensures passes { OnOk result (HasReadAll self.old self.new) }
+        ensures told { IfErr result (λ fault. TellsOf self.old fault
+            (leaf_depths (all_left self.old.unread))) }
     {
-        while let Some(block) = self.walk.unread.next_block() {
-            let block = self.walk.block(block)?;
-            self.json.push(owners, &block)?;
-            self.walk.reader.let_go(block);
+        while let Some(block) = self.unread.next_block() {
+            let block = self.block(block)?;
+            json.push(owners, &block)?;
+            self.reader.let_go(block);
         }
         Ok(())
+    }
+
+    /// The JSON of all blocks that are left, as those of a document whose lines have these owners.
+    fn json(&mut self, alloc: Global, owners: &LineOwners) -> Result<JsonText, Fault>
+        requires { ArePlacedLeft self.old.unread }
+        ensures json { IfOk result (λ json. json ≡ json_of (all_left self.old.unread) owners.now) }
+        ensures is_json { OnOk result (IsJson (json_of (all_left self.old.unread) owners.now)
+            (value_of (all_left self.old.unread) owners.now)) }
+        ensures passes { OnOk result (HasReadAll self.old self.new) }
+        ensures told { IfErr result (λ fault. TellsOf self.old fault
+            (leaf_depths (all_left self.old.unread))) }
+    {
+        let owners = owners.to_items(alloc)?;
+        let owners = owners.as_slice();
+        let text = JsonText::new(alloc)?;
+        let mut json = JsonWriter::new(text, owners)?;
+        self.push_json(owners, &mut json)?;
+        Ok(json.finish()?)
     }
 }
 
@@ -67,12 +78,6 @@ pub(crate) fn leaves_json(
     ensures told { IfErr result (λ fault. TellsFault fault (option_map faults.InlinesTooDeep
         (first_leaf_past limits.inlines (with_inlines limits.rules (defined_in definitions) blocks)))) }
 {
-    let owners = owners.to_items(alloc)?;
-    let owners = owners.as_slice();
-    let text = JsonText::new(alloc)?;
-    let json = JsonWriter::new(text, owners)?;
-    let walk = LeafWalk::new(alloc, limits, definitions, blocks);
-    let mut walk = JsonWalk { walk, json };
-    walk.push_all(owners)?;
-    Ok(walk.json.finish()?)
+    let mut walk = LeafWalk::new(alloc, limits, definitions, blocks);
+    walk.json(alloc, &owners)
 }

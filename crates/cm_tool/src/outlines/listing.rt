@@ -13,29 +13,38 @@ use cm_text::Limits;
 use cm_tree::{Definitions, RawTree};
 use std::alloc::Global;
 
-/// A walk over an outline, and the listing of what has been read.
-#[derive(Drop)]
-struct ListingWalk {
-    walk: LeafWalk,
-    listing: Pages,
-}
-
-impl ListingWalk {
+impl LeafWalk {
     /// Adds the listing of all blocks that are left.
-    fn push_all(&mut self) -> Result<(), Fault>
-        requires { ArePlacedLeft self.old.walk.unread }
-        ensures pushed { OnOk result (self.new.listing ≡
-            self.old.listing ++ listed_blocks 0 (all_left self.old.walk.unread)) }
-        ensures passes { OnOk result (HasReadAll self.old.walk self.new.walk) }
-        ensures told { IfErr result (λ fault. TellsOf self.old.walk fault
-            (leaf_depths (all_left self.old.walk.unread))) }
+    fn push_listing(&mut self, listing: &mut Pages) -> Result<(), Fault>
+        requires { ArePlacedLeft self.old.unread }
+        ensures pushed { OnOk result (listing.new ≡
+            listing.old ++ listed_blocks 0 (all_left self.old.unread)) }
+        ensures passes { OnOk result (HasReadAll self.old self.new) }
+        ensures told { IfErr result (λ fault. TellsOf self.old fault
+            (leaf_depths (all_left self.old.unread))) }
     {
-        while let Some(block) = self.walk.unread.next_block() {
-            let block = self.walk.block(block)?;
-            push_listed_block(&mut self.listing, &block)?;
-            self.walk.reader.let_go(block);
+        while let Some(block) = self.unread.next_block() {
+            let block = self.block(block)?;
+            push_listed_block(listing, &block)?;
+            self.reader.let_go(block);
         }
         Ok(())
+    }
+
+    /// The listing of all blocks that are left, and of the owners of the lines.
+    fn listing(&mut self, alloc: Global, owners: &LineOwners) -> Result<Pages, Fault>
+        requires { ArePlacedLeft self.old.unread }
+        ensures listing { IfOk result (λ pages. pages ≡
+            listing_of (all_left self.old.unread) owners.now) }
+        ensures passes { OnOk result (HasReadAll self.old self.new) }
+        ensures told { IfErr result (λ fault. TellsOf self.old fault
+            (leaf_depths (all_left self.old.unread))) }
+    {
+        let mut listing = Pages::new(alloc)?;
+        self.push_listing(&mut listing)?;
+        let owners = owners.to_items(alloc)?;
+        push_listed_owners(&mut listing, owners.as_slice())?;
+        Ok(listing)
     }
 }
 
@@ -59,12 +68,6 @@ pub(crate) fn leaves_listing(
     ensures told { IfErr result (λ fault. TellsFault fault (option_map faults.InlinesTooDeep
         (first_leaf_past limits.inlines (with_inlines limits.rules (defined_in definitions) blocks)))) }
 {
-    let listing = Pages::new(alloc)?;
-    let walk = LeafWalk::new(alloc, limits, definitions, blocks);
-    let mut walk = ListingWalk { walk, listing };
-    walk.push_all()?;
-    let mut listing = walk.listing;
-    let owners = owners.to_items(alloc)?;
-    push_listed_owners(&mut listing, owners.as_slice())?;
-    Ok(listing)
+    let mut walk = LeafWalk::new(alloc, limits, definitions, blocks);
+    walk.listing(alloc, &owners)
 }

@@ -6,12 +6,12 @@ use Rattle.cm_json.specs.SameDocuments.{is_in_range, are_in_range}
 use Rattle.cm_json.specs.Writer.{whole_with}
 use Rattle.cm_tool.specs.steps.LeafWalks.{block_read_of, all_left}
 use Rattle.cm_tool.proofs.lemmas.LeafWalkLemmas.{goes_next, goes_told}
-use Rattle.cm_tool.proofs.outlines.json.JsonWalk.push_all.Goals as goal
+use Rattle.cm_tool.proofs.outlines.leaf_walk.LeafWalk.push_json.Goals as goal
 
 pub returns-in_err-block-clause-told : goal.returns-in_err-block-clause-told
 returns-in_err-block-clause-told c =
     let p = err_from_is_err_and c.from_residual.result c.from_residual.ensures.1 in
-    rw (p.1, p.2) (goes_told c.args.self.now.walk c.loop-block.self.walk c.next_block.new.self c.loop-block.invariant.goes c.in-Some.block c.in-Some.ensures.limits c.in-Some.ensures.block
+    rw (p.1, p.2) (goes_told c.args.self.now c.loop-block.self c.next_block.new.self c.loop-block.invariant.goes c.in-Some.block c.in-Some.ensures.limits c.in-Some.ensures.block
     c.in_err-block.field-0.0 c.in_err-block.ensures.told)
 
 pub loop-block-preserved : goal.loop-block-preserved
@@ -20,7 +20,7 @@ loop-block-preserved c =
     let first = c.args.self.now in
     let unread = c.next_block.new.self in
     let block = block_read_of unread c.in-Some.block in
-    let old = c.loop-block.self.json in
+    let old = c.loop-block.json in
     let new = c.push.new.self in
     let has = c.in_ok-block.ensures.passes in
     record {
@@ -33,6 +33,6 @@ loop-block-preserved c =
       in_range = λ rest.
           c.loop-block.invariant.in_range (ap are_in_range c.in-Some.ensures.block
           ∙ and_from (is_in_range block) _ (ap is_in_range (sym c.in_ok-block.ensures.read) ∙ c.in_ok-push.ensures.in_range) (ap (λ u. are_in_range (all_left u)) (sym has.0) ∙ rest));
-      goes = goes_next first.walk c.loop-block.self.walk unread c.loop-block.invariant.goes c.in-Some.block c.in-Some.ensures.limits c.in-Some.ensures.block
+      goes = goes_next first c.loop-block.self unread c.loop-block.invariant.goes c.in-Some.block c.in-Some.ensures.limits c.in-Some.ensures.block
           _ c.in-Some.ensures.left has.0 has.1;
     }
