@@ -13,7 +13,8 @@ use Rattle.cm_tree.specs.declared.tree.ListKind.{ListKind}
 use Rattle.cm_tree.proofs.lemmas.RawWalks.{there-first, block_depth, item_depth}
 use Rattle.cm_text.specs.Limits.{LimitsView}
 use Rattle.cm_scan.specs.inlines.Brackets.{defined_in}
-use Rattle.std.specs.Prelude.{option_map, None}
+use Rattle.std.specs.Prelude.{option_map, None, Result, IfOk, IfErr, OnOk}
+use Rattle.std.proofs.lemmas.Result.{IfErr-weaker, IfOk-weaker}
 use Rattle.cm_tool.specs.declared.fault.Fault.{Fault}
 use Rattle.cm_tool.specs.declared.fault.Fault.TheVariants.{InlinesTooDeep}
 use Rattle.cm_tool.specs.declared.outlines.leaf_walk.LeafWalk.{LeafWalk}
@@ -21,7 +22,7 @@ use Rattle.cm_tool.specs.declared.outlines.leaf_walk.Unread.{Unread}
 use Rattle.cm_tool.specs.Leaves.{depths_in, first_leaf_past, leaf_depths}
 use Rattle.cm_tool.specs.Parsing.{TellsFault}
 use Rattle.cm_tool.specs.steps.Items.{items_leaf_depths, items_read}
-use Rattle.cm_tool.specs.steps.LeafWalks.{all_read, block_read_of, blocks_read_at, items_read_at, all_left, ArePlacedLeft, HasRead, TellsOf}
+use Rattle.cm_tool.specs.steps.LeafWalks.{all_read, block_read_of, blocks_read_at, items_read_at, all_left, ArePlacedLeft, HasRead, HasReadAll, TellsOf}
 use Rattle.cm_tool.specs.steps.Numbering.{Passes, TellsLeaf}
 use Rattle.cm_tool.proofs.lemmas.RawWalkLemmas.{Left, left_next, left_told, left_none, first_told, none_past, quote_depths, list_depths}
 
@@ -64,6 +65,14 @@ module _ (walk : LeafWalk) (limits : LimitsView) (blocks : List Block) (first : 
       (subst (λ (l : LimitsView). Passes l.inlines 1 behind (leaf_depths blocks)) same
       (subst (λ n. Passes walk.unread.limits.inlines n behind (leaf_depths blocks)) first
       (subst (λ blocks. Passes walk.unread.limits.inlines walk.next behind (leaf_depths blocks)) is passes)))
+
+  -- what a call that walks over all of them says
+  module _ {A : Type 0} (r : Result A Fault) where
+    pub walk_told : IfErr r (λ fault. TellsOf walk fault (leaf_depths (all_left walk.unread))) → IfErr r (λ fault. TellsFault fault (option_map InlinesTooDeep (first_leaf_past limits.inlines blocks)))
+    walk_told = IfErr-weaker r _ _ begun_told
+
+    pub walk_within : (now : LeafWalk) → OnOk r (HasReadAll walk now) → IfOk r (λ _. first_leaf_past limits.inlines blocks ≡ None)
+    walk_within now = IfOk-weaker r _ _ (λ _ passes. begun_within now.next passes)
 
 -- ---- what is at a place
 

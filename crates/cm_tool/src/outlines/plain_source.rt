@@ -90,33 +90,37 @@ impl PlainSource {
     }
 }
 
-/// A walk over an outline, and the source of what has been read.
-#[derive(Drop)]
-struct PlainSourceWalk {
-    walk: LeafWalk,
-    source: PlainSource,
-}
-
-impl PlainSourceWalk {
+impl LeafWalk {
     /// Spells all blocks that are left. The definitions of a block are leaves too, so they are removed after
     /// it is read.
-    fn push_all(&mut self) -> Result<(), Fault>
-        requires { ArePlacedLeft self.old.walk.unread }
+    fn push_plain_source(&mut self, source: &mut PlainSource) -> Result<(), Fault>
+        requires { ArePlacedLeft self.old.unread }
         ensures pushed { OnOk result ((rules : text_rules.Rules) (taken : List trees.Block)
-            → HasTaken rules self.old.source taken
-            → HasTaken rules self.new.source
-            (taken ++ without_definitions (all_left self.old.walk.unread))) }
-        ensures passes { OnOk result (HasReadAll self.old.walk self.new.walk) }
-        ensures told { IfErr result (λ fault. TellsOf self.old.walk fault
-            (leaf_depths (all_left self.old.walk.unread))) }
+            → HasTaken rules source.old taken
+            → HasTaken rules source.new (taken ++ without_definitions (all_left self.old.unread))) }
+        ensures passes { OnOk result (HasReadAll self.old self.new) }
+        ensures told { IfErr result (λ fault. TellsOf self.old fault
+            (leaf_depths (all_left self.old.unread))) }
     {
-        while let Some(block) = self.walk.unread.next_block() {
-            let block = self.walk.block(block)?;
-            let alloc = self.walk.unread.alloc;
-            self.source
-                .push_cleared(alloc, &mut self.walk.reader, block)?;
+        while let Some(block) = self.unread.next_block() {
+            let block = self.block(block)?;
+            source.push_cleared(self.unread.alloc, &mut self.reader, block)?;
         }
         Ok(())
+    }
+
+    /// The source of all blocks that are left without their definitions, or why they can't be spelled.
+    fn plain_source(&mut self, alloc: Global, rules: Rules) -> Result<Result<String, Why>, Fault>
+        requires { ArePlacedLeft self.old.unread }
+        ensures source { IfOk result (λ source.
+            Spelled rules (without_definitions (all_left self.old.unread)) source) }
+        ensures passes { OnOk result (HasReadAll self.old self.new) }
+        ensures told { IfErr result (λ fault. TellsOf self.old fault
+            (leaf_depths (all_left self.old.unread))) }
+    {
+        let mut source = PlainSource::new(alloc, rules);
+        self.push_plain_source(&mut source)?;
+        Ok(source.finish()?)
     }
 }
 
@@ -140,9 +144,6 @@ pub(crate) fn leaves_plain_source(
     ensures told { IfErr result (λ fault. TellsFault fault (option_map faults.InlinesTooDeep
         (first_leaf_past limits.inlines (with_inlines limits.rules (defined_in definitions) blocks)))) }
 {
-    let source = PlainSource::new(alloc, limits.rules());
-    let walk = LeafWalk::new(alloc, limits, definitions, blocks);
-    let mut walk = PlainSourceWalk { walk, source };
-    walk.push_all()?;
-    Ok(walk.source.finish()?)
+    let mut walk = LeafWalk::new(alloc, limits, definitions, blocks);
+    walk.plain_source(alloc, limits.rules())
 }

@@ -1,20 +1,21 @@
-use Rattle.std.proofs.lemmas.Result.{err_from_is_err_and}
-use Rattle.cm_scan.specs.inlines.Brackets.{defined_in}
-use Rattle.cm_scan.specs.Documents.{with_inlines}
-use Rattle.cm_tool.proofs.lemmas.LeafWalkLemmas.{begun_told, begun_within}
+use Rattle.std.proofs.Common.{subst}
+use Rattle.std.specs.Prelude.{IfOk}
+use Rattle.cm_source.specs.Definitions.{without_definitions}
+use Rattle.cm_tool.specs.steps.PlainSources.{Spelled}
+use Rattle.cm_tool.proofs.lemmas.LeafWalkLemmas.{walk_told, walk_within}
 use Rattle.cm_tool.proofs.outlines.plain_source.leaves_plain_source.Goals as goal
 
-pub returns-in_err-push_all-clause-told : goal.returns-in_err-push_all-clause-told
-returns-in_err-push_all-clause-told c =
-    let p = err_from_is_err_and c.from_residual.result c.from_residual.ensures.1 in
-    let limits = c.args.limits in
-    let new = c.new-walk.ensures in
-    rw (p.1, p.2) (begun_told c.new-walk.result limits (with_inlines limits.rules (defined_in c.args.definitions) c.args.blocks) new.first new.limits new.all
-    c.in_err-push_all.field-0.0 c.in_err-push_all.ensures.told)
+pub returns-clause-source : goal.returns-clause-source
+returns-clause-source c =
+    subst (λ blocks. IfOk c.plain_source.result (λ source. Spelled c.args.limits.rules (without_definitions blocks) source)) c.new-walk.ensures.all
+    (rw c.rules.ensures at c.plain_source.ensures.source)
 
 pub returns-clause-within : goal.returns-clause-within
 returns-clause-within c =
-    let limits = c.args.limits in
     let new = c.new-walk.ensures in
-    begun_within c.new-walk.result limits (with_inlines limits.rules (defined_in c.args.definitions) c.args.blocks) new.first new.limits new.all
-    c.push_all.new.self.walk.next c.in_ok-push_all.ensures.passes
+    walk_within c.new-walk.result c.args.limits _ new.first new.limits new.all c.plain_source.result c.plain_source.new.self c.plain_source.ensures.passes
+
+pub returns-clause-told : goal.returns-clause-told
+returns-clause-told c =
+    let new = c.new-walk.ensures in
+    walk_told c.new-walk.result c.args.limits _ new.first new.limits new.all c.plain_source.result c.plain_source.ensures.told
