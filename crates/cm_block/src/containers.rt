@@ -12,7 +12,7 @@ use cm_tree::RawFault;
 use std::alloc::Global;
 
 /// What the innermost of the quotes and items that a line starts contains.
-#[derive(Clone, Copy, Debug)]
+#[derive(Clone, Copy)]
 pub(crate) enum Innermost<'a> {
     /// Unknown, because there is one quote or item too many.
     TooDeep,

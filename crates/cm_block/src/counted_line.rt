@@ -68,13 +68,13 @@ pub(crate) struct CountedLines<'a> {
 
 /// How a leaf block starts, as it was found in a line. It doesn't show what was found: only a call of the
 /// line uses it.
-#[derive(Clone, Copy, Debug)]
+#[derive(Clone, Copy)]
 pub(crate) struct LeafStart<'a> {
     found: Start<'a>,
 }
 
 /// What a line starts in the innermost container, where no leaf is open.
-#[derive(Clone, Copy, Debug)]
+#[derive(Clone, Copy)]
 pub(crate) enum Begins<'a> {
     /// Nothing: it is blank.
     Nothing,

@@ -6,7 +6,7 @@ ghost use Rattle.cm_block.specs.steps.LeafBlocks.{block_of};
 use cm_tree::{RawBlock, RawBlocks, RawFault};
 
 /// A leaf block, with its texts lent (chapter 4).
-#[derive(Clone, Copy, Debug)]
+#[derive(Clone, Copy)]
 pub(crate) enum LeafBlock<'a> {
     Paragraph {
         source: &'a str,

@@ -33,7 +33,7 @@ pub(crate) struct OpenLeaf {
 }
 
 /// What ends the open leaf.
-#[derive(Clone, Copy, Debug)]
+#[derive(Clone, Copy)]
 pub(crate) enum Ending {
     /// No line besides its content.
     Plain,
@@ -44,7 +44,7 @@ pub(crate) enum Ending {
 }
 
 /// What a line is to the open leaf.
-#[derive(Clone, Copy, Debug)]
+#[derive(Clone, Copy)]
 pub(crate) enum LeafLine {
     /// It is one of its lines, and the leaf stays open.
     Stays,

@@ -44,7 +44,7 @@ pub(crate) enum Container {
 }
 
 /// How a line stays in an open container, if it does.
-#[derive(Clone, Copy, Debug)]
+#[derive(Clone, Copy)]
 pub(crate) enum Stays {
     /// After the container's marker or indentation.
     Inside,
@@ -116,7 +116,7 @@ impl Frame {
 
 /// The number of items that a line has entered by itself, and whether the next container is an item in which
 /// it doesn't stay.
-#[derive(Clone, Copy, Debug)]
+#[derive(Clone, Copy)]
 struct EnteredItems {
     count: usize,
     leaves: bool,

@@ -115,7 +115,7 @@ pub(super) fn plain_marker(line: &View<'_>) -> Option<(ItemMarker, usize)>
 
 /// An item that a line starts: the kind of its list, the column at which its content starts, and the line as
 /// it enters it.
-#[derive(Clone, Copy, Debug)]
+#[derive(Clone, Copy)]
 pub(super) struct PlainItem<'a> {
     pub(super) kind: ListKind,
     pub(super) column: usize,

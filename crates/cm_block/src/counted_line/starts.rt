@@ -18,7 +18,7 @@ use cm_scan::{
 use cm_text::{Rules, View, begins_text};
 
 /// What a line that is neither blank nor lazy starts (chapters 4 and 5).
-#[derive(Clone, Copy, Debug)]
+#[derive(Clone, Copy)]
 pub(crate) enum Start<'a> {
     IndentedCode,
     QuoteMarker,
