@@ -18,7 +18,7 @@ use cm_text::{Chars, Rules, is_ascii_punct, next_markup, reference_at};
 use std::alloc::{AllocError, Global};
 
 /// What starts at a place of a source.
-#[derive(Clone, Copy, Debug)]
+#[derive(Clone, Copy)]
 pub(crate) enum Atom {
     /// Text in which HTML escapes nothing.
     Text,

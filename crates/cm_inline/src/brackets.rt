@@ -28,7 +28,7 @@ use std::alloc::{AllocError, Global};
 
 /// A `[` or `![` that nothing was made of yet: the number of its mark, the place after it, and how many runs
 /// wait before it.
-#[derive(Clone, Copy, Debug)]
+#[derive(Clone, Copy)]
 pub(crate) struct Bracket {
     pub(crate) mark: usize,
     pub(crate) image: bool,
@@ -37,7 +37,7 @@ pub(crate) struct Bracket {
 }
 
 /// A link or an image.
-#[derive(Clone, Copy, Debug)]
+#[derive(Clone, Copy)]
 pub(crate) struct Link {
     pub(crate) image: bool,
     pub(crate) target: Target,

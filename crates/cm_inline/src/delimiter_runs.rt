@@ -7,7 +7,7 @@ ghost use Rattle.cm_inline.specs.steps.Searching.{kind};
 ghost use Rattle.cm_inline.specs.steps.Runs.{byte_of, run_of};
 
 /// The character of a delimiter run.
-#[derive(Clone, Copy, Debug)]
+#[derive(Clone, Copy)]
 pub(crate) enum Marker {
     Star,
     Underscore,
@@ -41,7 +41,7 @@ impl Marker {
 
 /// A delimiter run: its character, whether it may open and may close emphasis, its whole length, and how many
 /// of its characters are left.
-#[derive(Clone, Copy, Debug)]
+#[derive(Clone, Copy)]
 pub(crate) struct DelimiterRun {
     pub(crate) marker: Marker,
     pub(crate) opens: bool,

@@ -11,7 +11,7 @@ use cm_scan::{first_character, last_character};
 use cm_text::{Rules, is_punct_by, is_space};
 
 /// The character next to a run, as it matters to the run.
-#[derive(Clone, Copy, Debug)]
+#[derive(Clone, Copy)]
 pub(crate) enum Neighbour {
     /// Unicode whitespace, or the start or the end of the leaf.
     Whitespace,

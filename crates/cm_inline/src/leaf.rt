@@ -6,7 +6,7 @@ use std::alloc::Global;
 
 /// A leaf's source, whose places have 32 bits, with the document's definitions, and the greatest depth that
 /// the inlines may have.
-#[derive(Clone, Copy, Debug)]
+#[derive(Clone, Copy)]
 pub(crate) struct Leaf<'a> {
     pub(crate) source: &'a str,
     pub(crate) definitions: &'a Definitions,

@@ -19,7 +19,7 @@ use cm_text::{NoMemory, Rules, is_followed, plain_label_number, unescape_or_lend
 
 /// The target of a link or an image: the places of its destination and its title as they are written after
 /// it, or the number of a definition.
-#[derive(Clone, Copy, Debug)]
+#[derive(Clone, Copy)]
 pub(crate) enum Target {
     Written {
         dest: u32,
@@ -33,7 +33,7 @@ pub(crate) enum Target {
 }
 
 /// The target of a link or an image, and the place where it ends.
-#[derive(Clone, Copy, Debug)]
+#[derive(Clone, Copy)]
 pub(crate) struct LinkEnd {
     pub(crate) target: Target,
     pub(crate) end: usize,

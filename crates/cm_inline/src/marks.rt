@@ -17,7 +17,7 @@ use std::alloc::{AllocError, Global};
 use std::borrow::CowStr;
 
 /// What is between two places of the source.
-#[derive(Clone, Copy, Debug)]
+#[derive(Clone, Copy)]
 pub(crate) enum Kind {
     /// Text, as it is there: `[` or `![`.
     Plain,
@@ -46,7 +46,7 @@ pub(crate) enum Kind {
 }
 
 /// What is between two places of the source, other than text.
-#[derive(Clone, Copy, Debug)]
+#[derive(Clone, Copy)]
 pub(crate) struct Mark {
     pub(crate) at: u32,
     pub(crate) end: u32,
@@ -54,7 +54,7 @@ pub(crate) struct Mark {
 }
 
 /// How far the output has come: the next mark, and where the text before it starts that isn't written yet.
-#[derive(Clone, Copy, Debug)]
+#[derive(Clone, Copy)]
 pub(crate) struct Place {
     pub(crate) mark: usize,
     pub(crate) from: usize,

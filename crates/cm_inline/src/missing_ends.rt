@@ -15,7 +15,7 @@ use std::collections::BTreeMap;
 
 /// A form of raw HTML that ends at the first place of a word, however far that is (CommonMark 0.31.2, 6.6 Raw
 /// HTML).
-#[derive(Clone, Copy, Debug, PartialEq, Eq)]
+#[derive(Clone, Copy, PartialEq, Eq)]
 pub(crate) enum Form {
     /// From `<!--` to `-->`. With the older rules a comment is over, or is none, at the next `--`, so nothing
     /// has to be remembered.

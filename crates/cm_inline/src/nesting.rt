@@ -13,7 +13,7 @@ use crate::marks::{Kind, Mark};
 use crate::runs::{Pair, Runs};
 
 /// How deep the current place nests, and the greatest depth so far.
-#[derive(Clone, Copy, Debug)]
+#[derive(Clone, Copy)]
 struct Level {
     now: usize,
     most: usize,

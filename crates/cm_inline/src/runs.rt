@@ -26,7 +26,7 @@ use crate::openers::{Opener, Openers};
 use std::alloc::{AllocError, Global};
 
 /// What a pair makes of what is between its runs.
-#[derive(Clone, Copy, Debug)]
+#[derive(Clone, Copy)]
 pub(crate) enum Emphasis {
     Emph,
     Strong,
@@ -34,14 +34,14 @@ pub(crate) enum Emphasis {
 }
 
 /// A pair: what it makes, and the pair that its opener opened before, counted from 1.
-#[derive(Clone, Copy, Debug)]
+#[derive(Clone, Copy)]
 pub(crate) struct Pair {
     pub(crate) emphasis: Emphasis,
     pub(crate) before: u32,
 }
 
 /// A run with its pairs: the last that it opens, counted from 1, and the range of those that it closes.
-#[derive(Clone, Copy, Debug)]
+#[derive(Clone, Copy)]
 pub(crate) struct Run {
     pub(crate) run: DelimiterRun,
     pub(crate) opened: u32,
