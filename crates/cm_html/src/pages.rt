@@ -284,6 +284,7 @@ impl Pages {
         }
     }
 }
+
 /// Whether a `usize` counts the bytes of pages, if each is held for up to `longest` bytes.
 fn is_countable(full: &[Page], last: &Page, longest: usize) -> bool
     ensures { IsTrue result → longest * length (concat full.now ++ last.now) < 2 ^ 64 }

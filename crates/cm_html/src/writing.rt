@@ -71,8 +71,8 @@ fn add_all<K: Phrases, W: Sink>(
     add_page::<K, W>(out, sink, last)
 }
 
-/// Writes the full pages, followed by the last one, with each phrase in the place of the byte that is held for
-/// it. Returns how many bytes were written.
+/// Writes the full pages, followed by the last one, with each phrase in the place of the byte that is held
+/// for it. Returns how many bytes were written.
 pub(crate) fn write_pages<K: Phrases, W: Sink>(
     out: &mut Outgoing,
     sink: &mut W,

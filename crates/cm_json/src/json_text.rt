@@ -1,5 +1,6 @@
 //! JSON that is made from its start to its end.
-ghost use Rattle.std.specs.Prelude.{◌≡◌, ◌-◌, ◌<◌, ◌^◌, [], ◌++◌, codes, length, string_bytes, IfOk, IfSome, OnOk};
+ghost use Rattle.std.specs.Prelude.{◌≡◌, ◌-◌, ◌<◌, ◌^◌, [], ◌++◌, codes, length, string_bytes};
+ghost use Rattle.std.specs.Prelude.{IfOk, IfSome, OnOk};
 ghost use Rattle.std.specs.Fmt.{decimal};
 ghost use Rattle.json.specs.Print.{escape};
 ghost use Rattle.cm_html.specs.Writing.{WritesText};
@@ -12,8 +13,8 @@ use cm_tree::BoxedText;
 use std::alloc::{AllocError, Global};
 use std::marker::Model;
 
-/// JSON that is made from its start to its end. It is written when it is whole, and until then each phrase that
-/// occurs often is held as one byte.
+/// JSON that is made from its start to its end. It is written when it is whole, and until then each phrase
+/// that occurs often is held as one byte.
 ///
 /// Contracts see it as the bytes that are written.
 #[derive(Drop)]

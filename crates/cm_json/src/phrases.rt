@@ -1,7 +1,7 @@
 //! Phrases of JSON that are held as one byte each.
 //!
-//! In JSON the bytes below the space occur as escapes alone, so each of them can be held for a phrase. The node
-//! of a text then takes 4 bytes and the text; written, it has 26 more than the text.
+//! In JSON the bytes below the space occur as escapes alone, so each of them can be held for a phrase. The
+//! node of a text then takes 4 bytes and the text; written, it has 26 more than the text.
 ghost use Rattle.std.specs.Prelude.{◌≡◌, IsTrue};
 ghost use Rattle.cm_json.specs.steps.Phrases.{is_held, written};
 

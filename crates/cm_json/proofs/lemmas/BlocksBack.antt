@@ -11,7 +11,7 @@ use Rattle.cm_tree.specs.declared.tree.Block.{Block, Block-F, map-Block}
 use Rattle.cm_tree.specs.declared.tree.Block.TheOpen as block
 use Rattle.cm_tree.specs.declared.tree.Block.TheVariants.{Paragraph, Heading, Code, Html, Break, Definition, Quote, List as ListBlock}
 use Rattle.cm_tree.specs.declared.tree.Owner.{Owner}
-use Rattle.cm_json.specs.Mdast.{optional, count, lines, final_newline, info_member, ends_in_line_feed, is_plain_info, without_line_feed, language, behind_language, skip_spaces, starts_without_space, order}
+use Rattle.cm_json.specs.Mdast.{optional, count, lines, final_newline, info_member, ends_in_line_feed, is_plain_info, without_line_feed, language, meta, skip_spaces, starts_without_space, order}
 use Rattle.json.specs.Tree.{HasNumbers, ItemsHaveNumbers, MembersHaveNumbers}
 use Rattle.cm_tree.specs.declared.tree.Owner.TheVariants.{Leaf, Marker, Blank}
 use Rattle.cm_json.specs.Mdast.{leaf, leaf_start, leaf_end, run_length, has_leaf, is_not_of}
@@ -119,8 +119,8 @@ value-back text =
       | false ↦ λ e. unended-back text e
     ] refl
 
-ended-behind : (info : List ℕ) (told : Members) → ended_back (info_member info told) ≡ ended_back told
-ended-behind info told = elim (is_plain_info info) as (λ b. ended_back (cond b told (member (codes "info") (string info) told)) ≡ ended_back told) [ true ↦ refl | false ↦ refl ]
+ended-info : (info : List ℕ) (told : Members) → ended_back (info_member info told) ≡ ended_back told
+ended-info info told = elim (is_plain_info info) as (λ b. ended_back (cond b told (member (codes "info") (string info) told)) ≡ ended_back told) [ true ↦ refl | false ↦ refl ]
 
 -- what a language and what follows it make
 
@@ -134,9 +134,9 @@ language-next : (b : ℕ) (bs : List ℕ) → is_space_or_tab b ≡ false → la
 unfolding language
 language-next b bs other = ap (λ n. take n (b ∷ bs)) (place-next b bs other)
 
-behind-next : (b : ℕ) (bs : List ℕ) → is_space_or_tab b ≡ false → behind_language (b ∷ bs) ≡ behind_language bs
-unfolding behind_language
-behind-next b bs other =
+meta-next : (b : ℕ) (bs : List ℕ) → is_space_or_tab b ≡ false → meta (b ∷ bs) ≡ meta bs
+unfolding meta
+meta-next b bs other =
     let next : position_or_len is_space_or_tab (b ∷ bs) + 1 ≡ suc (position_or_len is_space_or_tab bs + 1) = omega (arith, place-next b bs other) in
     ap (λ n. skip_spaces (drop n (b ∷ bs))) next
 
@@ -151,8 +151,8 @@ without-space (b ∷ bs) starts =
     let other : is_space_or_tab b ≡ false = grind arith in
     ap (λ t. joined [] (cond t (skip_spaces bs) (b ∷ bs))) other
 
-joined-space : (b : ℕ) (bs : List ℕ) → is_space_or_tab b ≡ true → (b == 32 && starts_without_space bs) ≡ true → joined (language (b ∷ bs)) (behind_language (b ∷ bs)) ≡ b ∷ bs
-unfolding language behind_language
+joined-space : (b : ℕ) (bs : List ℕ) → is_space_or_tab b ≡ true → (b == 32 && starts_without_space bs) ≡ true → joined (language (b ∷ bs)) (meta (b ∷ bs)) ≡ b ∷ bs
+unfolding language meta
 joined-space b bs space plain =
     let is : b ≡ 32 = grind arith in
     let starts : starts_without_space bs ≡ true = grind arith in
@@ -160,18 +160,18 @@ joined-space b bs space plain =
     ∙ without-space bs starts
     ∙ ap (λ c. c ∷ bs) (sym is)
 
-empty-back : joined (language []) (behind_language []) ≡ []
-unfolding language behind_language skip_spaces
+empty-back : joined (language []) (meta []) ≡ []
+unfolding language meta skip_spaces
 empty-back = refl
 
-joined-back : (info : List ℕ) → is_plain_info info ≡ true → joined (language info) (behind_language info) ≡ info
+joined-back : (info : List ℕ) → is_plain_info info ≡ true → joined (language info) (meta info) ≡ info
 unfolding is_plain_info
 joined-back [] plain = empty-back
-joined-back (b ∷ bs) plain = elim (is_space_or_tab b) as (λ t. is_space_or_tab b ≡ t → joined (language (b ∷ bs)) (behind_language (b ∷ bs)) ≡ b ∷ bs) [
+joined-back (b ∷ bs) plain = elim (is_space_or_tab b) as (λ t. is_space_or_tab b ≡ t → joined (language (b ∷ bs)) (meta (b ∷ bs)) ≡ b ∷ bs) [
   | true ↦ λ e. joined-space b bs e (sym (ap (λ t. cond t (b == 32 && starts_without_space bs) (is_plain_info bs)) e) ∙ plain)
   | false ↦ λ e.
-      ap₂ joined (language-next b bs e) (behind-next b bs e)
-      ∙ joined-next b (language bs) (behind_language bs)
+      ap₂ joined (language-next b bs e) (meta-next b bs e)
+      ∙ joined-next b (language bs) (meta bs)
       ∙ ap (λ t. b ∷ t) (joined-back bs (sym (ap (λ t. cond t (b == 32 && starts_without_space bs) (is_plain_info bs)) e) ∙ plain))
 ] refl
 
@@ -179,11 +179,11 @@ newline-joined : (lang meta text : List ℕ) → info_back lang meta (final_newl
 newline-joined lang meta text =
     elim (ends_in_line_feed text) as (λ b. info_back lang meta (cond b no_members (member (codes "finalNewline") (boolean false) no_members)) ≡ joined lang meta) [ true ↦ refl | false ↦ refl ]
 
-info-back : (info text : List ℕ) → info_back (optional_back (optional (language info))) (optional_back (optional (behind_language info))) (info_member info (final_newline text)) ≡ info
+info-back : (info text : List ℕ) → info_back (optional_back (optional (language info))) (optional_back (optional (meta info))) (info_member info (final_newline text)) ≡ info
 info-back info text =
-    ap₂ (λ lang meta. info_back lang meta (info_member info (final_newline text))) (optional-back (language info)) (optional-back (behind_language info))
-    ∙ (elim (is_plain_info info) as (λ b. is_plain_info info ≡ b → info_back (language info) (behind_language info) (cond b (final_newline text) (member (codes "info") (string info) (final_newline text))) ≡ info) [
-      | true ↦ λ e. newline-joined (language info) (behind_language info) text ∙ joined-back info e
+    ap₂ (λ lang meta. info_back lang meta (info_member info (final_newline text))) (optional-back (language info)) (optional-back (meta info))
+    ∙ (elim (is_plain_info info) as (λ b. is_plain_info info ≡ b → info_back (language info) (meta info) (cond b (final_newline text) (member (codes "info") (string info) (final_newline text))) ≡ info) [
+      | true ↦ λ e. newline-joined (language info) (meta info) text ∙ joined-back info e
       | false ↦ λ e. refl
     ] refl)
 
@@ -372,10 +372,10 @@ layer (block.Code info text) =
     (λ fit owners small passed within.
     let told = info_member info (final_newline text) in
     leaf-found owners small passed within (Code info text) (codes "code") told
-    (member (codes "lang") (optional (language info)) (member (codes "meta") (optional (behind_language info)) (valued (without_line_feed text))))
-    (code-back (leaf_start owners passed) (leaf_end owners passed) told (language info) (behind_language info) (without_line_feed text)
-    ∙ ap₂ Code (info-back info text) (ap (λ b. value_back b (without_line_feed text)) (ended-behind info (final_newline text)) ∙ value-back text))
-    (info-numbers info (final_newline text) (final_newline-numbers text)) (optional-numbers (language info), (optional-numbers (behind_language info), (tt, tt))))
+    (member (codes "lang") (optional (language info)) (member (codes "meta") (optional (meta info)) (valued (without_line_feed text))))
+    (code-back (leaf_start owners passed) (leaf_end owners passed) told (language info) (meta info) (without_line_feed text)
+    ∙ ap₂ Code (info-back info text) (ap (λ b. value_back b (without_line_feed text)) (ended-info info (final_newline text)) ∙ value-back text))
+    (info-numbers info (final_newline text) (final_newline-numbers text)) (optional-numbers (language info), (optional-numbers (meta info), (tt, tt))))
 layer (block.Html text) =
     known (Html text) true 1 _ (simp (fold_out-Block Bool range_step, outs-Html)) (simp (fold_out-Block ℕ leaves_step, outs-Html)) (λ owners. html-placed owners text)
     (λ fit owners small passed within. leaf-found owners small passed within (Html text) (codes "html") (final_newline text) (valued (without_line_feed text)) (ap Html (value-back text)) (final_newline-numbers text) (tt, tt))

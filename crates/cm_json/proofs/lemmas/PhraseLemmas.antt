@@ -55,6 +55,6 @@ escape_as_held (b ∷ bs) =
     flat_map-append written (escape_byte b) (escape bs) ∙ ap₂ (λ front rest. front ++ rest) (byte_as_held b) (escape_as_held bs)
 
 -- such a text is put after a held one
-pub held_behind : {T E : Type 0} (r : Result T E) (old new more seen : List ℕ) → OnOk r (new ≡ old ++ more) → expanded more ≡ more → expanded old ≡ seen → OnOk r (expanded new ≡ seen ++ more)
-held_behind (Ok x) old new more seen pushed same view = ap expanded pushed ∙ flat_map-append written old more ∙ ap₂ (λ front rest. front ++ rest) view same
-held_behind (Err e) old new more seen pushed same view = tt
+pub held_pushed : {T E : Type 0} (r : Result T E) (old new more seen : List ℕ) → OnOk r (new ≡ old ++ more) → expanded more ≡ more → expanded old ≡ seen → OnOk r (expanded new ≡ seen ++ more)
+held_pushed (Ok x) old new more seen pushed same view = ap expanded pushed ∙ flat_map-append written old more ∙ ap₂ (λ front rest. front ++ rest) view same
+held_pushed (Err e) old new more seen pushed same view = tt

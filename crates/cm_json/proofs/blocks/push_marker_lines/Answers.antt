@@ -15,13 +15,13 @@ loop-owner-preserved c =
     elim c.if-is_marker.branch [
       | then-is_marker+in_ok-push_line_number w ↦
           let is = sym c.is_marker.ensures ∙ w.if-is_marker.true in
-          let wrote = w.in_ok-push_line_number.ensures ∙ ap (λ n. c.loop-owner.out ++ (comma c.loop-owner.behind ++ decimal (n + 1))) c.loop-owner.invariant.place in
+          let wrote = w.in_ok-push_line_number.ensures ∙ ap (λ n. c.loop-owner.out ++ (comma c.loop-owner.follows ++ decimal (n + 1))) c.loop-owner.invariant.place in
           record {
             place = omega (arith, c.loop-owner.invariant.place);
             written =
-                ap₂ (λ out behind. out ++ items_text behind rest) (w.out-is ∙ wrote) w.behind-is
-                ∙ append_assoc c.loop-owner.out (comma c.loop-owner.behind ++ decimal (i + 1)) (items_text true rest)
-                ∙ ap (λ t. c.loop-owner.out ++ items_text c.loop-owner.behind t) (a_marker owners i within is)
+                ap₂ (λ out follows. out ++ items_text follows rest) (w.out-is ∙ wrote) w.follows-is
+                ∙ append_assoc c.loop-owner.out (comma c.loop-owner.follows ++ decimal (i + 1)) (items_text true rest)
+                ∙ ap (λ t. c.loop-owner.out ++ items_text c.loop-owner.follows t) (a_marker owners i within is)
                 ∙ c.loop-owner.invariant.written;
           }
       | else-is_marker w ↦
@@ -29,8 +29,8 @@ loop-owner-preserved c =
           record {
             place = omega (arith, c.loop-owner.invariant.place);
             written =
-                ap₂ (λ out behind. out ++ items_text behind rest) w.out-is w.behind-is
-                ∙ ap (λ t. c.loop-owner.out ++ items_text c.loop-owner.behind t) (no_marker owners i within no)
+                ap₂ (λ out follows. out ++ items_text follows rest) w.out-is w.follows-is
+                ∙ ap (λ t. c.loop-owner.out ++ items_text c.loop-owner.follows t) (no_marker owners i within no)
                 ∙ c.loop-owner.invariant.written;
           }
     ]
