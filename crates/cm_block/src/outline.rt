@@ -53,10 +53,9 @@ fn made_block(alloc: Global, raw: &RawBlocks, block: RawBlock) -> Result<Block, 
             level,
             content: content(alloc, raw.text(from, to))?,
         }),
-        RawBlock::Code { info, text, to } => Ok(Block::Code {
-            info: Text::from_str(alloc, raw.text(info, text))?,
-            text: Text::from_str(alloc, raw.text(text, to))?,
-        }),
+        RawBlock::Code { info, text, to } => {
+            Block::code(alloc, raw.text(info, text), raw.text(text, to))
+        }
         RawBlock::Html { from, to } => Ok(Block::Html {
             text: Text::from_str(alloc, raw.text(from, to))?,
         }),
@@ -66,11 +65,12 @@ fn made_block(alloc: Global, raw: &RawBlocks, block: RawBlock) -> Result<Block, 
             dest,
             title,
             to,
-        } => Ok(Block::Definition {
-            label: Text::from_str(alloc, raw.text(label, dest))?,
-            dest: Text::from_str(alloc, raw.text(dest, title))?,
-            title: Text::from_str(alloc, raw.text(title, to))?,
-        }),
+        } => Block::definition(
+            alloc,
+            raw.text(label, dest),
+            raw.text(dest, title),
+            raw.text(title, to),
+        ),
         RawBlock::Quote { from, to } => Ok(Block::Quote(made_blocks(alloc, raw, from, to)?)),
         RawBlock::List {
             kind,

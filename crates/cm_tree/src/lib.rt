@@ -65,6 +65,7 @@ mod items;
 mod kept_texts;
 mod label_index;
 pub mod laws;
+mod leaf_blocks;
 mod link_target;
 mod raw_blocks;
 mod raw_html;
