@@ -1,5 +1,6 @@
 //! Infos of code blocks.
-ghost use Rattle.std.specs.Prelude.{◌≡◌, ◌∷◌, [], string_bytes, OnOk};
+ghost use Rattle.std.specs.Prelude.{◌≡◌, ℕ, List, ◌∷◌, ◌++◌, [], string_bytes, OnOk};
+ghost use Rattle.cm_text.specs.Unescaping.{unescape};
 ghost use Rattle.cm_block.specs.Prelude.{is_line_space, as_space, info_of};
 
 use cm_text::{ByteKind, NoMemory, Replaced, Rules, push_replaced, unescape_or_lend};
@@ -32,8 +33,20 @@ impl Replaced for LineSpace {
     }
 }
 
-/// Replaces an info by that of a code block, from its source. Escapes and references are resolved. With rules
-/// without raw HTML it is one line. The memory of the info is used again.
+/// Adds a resolved text to an info. With rules without raw HTML it comes on one line.
+fn push_resolved(rules: Rules, resolved: &str, info: &mut String) -> Result<(), AllocError>
+    ensures { OnOk result ((source : List ℕ) → resolved.now ≡ unescape source
+        → string_bytes info.new ≡ string_bytes info.old ++ info_of rules source) }
+{
+    if rules.raw_html() {
+        info.push_str(resolved)?;
+        return Ok(());
+    }
+    push_replaced::<LineSpace>(info, resolved)
+}
+
+/// Replaces an info by that of a code block, from its source. Escapes and references are resolved. The memory
+/// of the info is used again.
 pub(crate) fn set_info(
     alloc: Global,
     rules: Rules,
@@ -44,10 +57,5 @@ pub(crate) fn set_info(
 {
     let resolved = unescape_or_lend(alloc, source)?;
     info.clear();
-    if rules.raw_html() {
-        info.push_str(&resolved)?;
-        return Ok(());
-    }
-    push_replaced::<LineSpace>(info, &resolved)?;
-    Ok(())
+    Ok(push_resolved(rules, &resolved, info)?)
 }

@@ -418,16 +418,15 @@ impl Stack {
             return Ok(());
         };
         let inside = mem::replace(&mut self.level, level);
+        let (ends_blank, separated) = (inside.ends_blank, inside.separated);
+        let blocks = inside.into_blocks(&mut self.raw, &mut self.room)?;
         match container {
             Container::Quote => {
-                let blocks = inside.into_blocks(&mut self.raw, &mut self.room)?;
                 let quote = self.raw.quote(&blocks)?;
                 self.room.keep_blocks(blocks);
                 self.level.close_block(quote)
             }
             Container::Item { .. } => {
-                let (ends_blank, separated) = (inside.ends_blank, inside.separated);
-                let blocks = inside.into_blocks(&mut self.raw, &mut self.room)?;
                 let item = self.raw.item(&blocks)?;
                 self.room.keep_blocks(blocks);
                 self.level.close_item(item, ends_blank, separated)

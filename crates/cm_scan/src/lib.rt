@@ -60,5 +60,5 @@ pub use line_forms::{
     AtxHeading, FenceKind, OpeningFence, atx, fence, fence_end, quote_marker, thematic, underline,
 };
 pub use links::{LinkDefinition, definition, destination, is_next, label, title};
-pub use markers::{ItemMarker, MOST_DIGITS, is_same_kind, item_marker};
+pub use markers::{ItemMarker, MOST_DIGITS, bullet_kind, is_same_kind, item_marker};
 pub use words::{after_run, is_blank_text, trim_end, trim_end_spaces};

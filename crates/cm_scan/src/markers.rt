@@ -20,8 +20,8 @@ pub struct ItemMarker {
     pub digits: usize,
 }
 
-/// `-`, `+` or `*`.
-fn bullet_kind(b: u8) -> Option<ListKind>
+/// The kind of the list of a bullet: `-`, `+` or `*` (5.2 List items).
+pub fn bullet_kind(b: u8) -> Option<ListKind>
     ensures { result ≡ bullet_kind b }
 {
     match b {

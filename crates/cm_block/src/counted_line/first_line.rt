@@ -68,14 +68,15 @@ pub(crate) fn put_whole(
 }
 
 /// Opens indented code: the line loses 4 columns (4.4 Indented code blocks).
-fn begin_code(leaf: &mut OpenLeaf, line: &View<'_>) -> Result<(), AllocError>
+fn begin_code(leaf: &mut OpenLeaf, line: &View<'_>) -> Result<LeafLine, NoMemory>
     requires { leaf_of leaf.old ≡ no_leaf }
-    ensures { OnOk result ((by : all.Rules) → begins_leaf (stays_open (leaf_of leaf.new))
-        ≡ begin_of_start by starts.IndentedCode (seen_view line.now)) }
+    ensures { IfOk result (λ first. (by : all.Rules) → first_of first leaf.new
+        ≡ Some (begin_of_start by starts.IndentedCode (seen_view line.now))) }
 {
     leaf.kind = LeafKind::Code;
     leaf.blank_lines.clear();
-    push_line(&mut leaf.text, &strip_four(line))
+    push_line(&mut leaf.text, &strip_four(line))?;
+    Ok(LeafLine::Stays)
 }
 
 /// Opens a fenced code block, with its info resolved. Each further line loses as many columns as this one has
@@ -86,22 +87,22 @@ fn begin_fence(
     leaf: &mut OpenLeaf,
     fence: OpeningFence<'_>,
     line: &View<'_>,
-) -> Result<(), NoMemory>
+) -> Result<LeafLine, NoMemory>
     requires { leaf_of leaf.old ≡ no_leaf }
-    ensures { OnOk result (begins_leaf (stays_open (leaf_of leaf.new))
-        ≡ begin_of_start rules (seen (Fence fence.entry)) (seen_view line.now)) }
+    ensures { IfOk result (λ first. first_of first leaf.new
+        ≡ Some (begin_of_start rules (seen (Fence fence.entry)) (seen_view line.now))) }
 {
     set_info(alloc, rules, fence.info, &mut leaf.info)?;
     leaf.kind = LeafKind::Fence {
         kind: fence.kind,
         columns: line.indent(),
     };
-    Ok(())
+    Ok(LeafLine::Stays)
 }
 
-/// Opens HTML, which its first line may end (4.6 HTML blocks). Returns what the line is to it.
+/// Opens HTML, which its first line may end (4.6 HTML blocks).
 #[inline(always)]
-fn begin_html(leaf: &mut OpenLeaf, kind: HtmlKind, line: &View<'_>) -> Result<LeafLine, AllocError>
+fn begin_html(leaf: &mut OpenLeaf, kind: HtmlKind, line: &View<'_>) -> Result<LeafLine, NoMemory>
     requires { leaf_of leaf.old ≡ no_leaf }
     ensures { IfOk result (λ first. (by : all.Rules) → first_of first leaf.new
         ≡ Some (begin_of_start by (starts.HtmlStart (kind_of kind)) (seen_view line.now))) }
@@ -116,13 +117,14 @@ fn begin_html(leaf: &mut OpenLeaf, kind: HtmlKind, line: &View<'_>) -> Result<Le
 
 /// Opens a run of text, which starts with the line after its indentation (4.8 Paragraphs).
 #[inline(always)]
-fn begin_run(leaf: &mut OpenLeaf, line: &View<'_>) -> Result<(), AllocError>
+fn begin_run(leaf: &mut OpenLeaf, line: &View<'_>) -> Result<LeafLine, NoMemory>
     requires { leaf_of leaf.old ≡ no_leaf }
-    ensures { OnOk result ((by : all.Rules) → begins_leaf (stays_open (leaf_of leaf.new))
-        ≡ begin_of_start by starts.TextLine (seen_view line.now)) }
+    ensures { IfOk result (λ first. (by : all.Rules) → first_of first leaf.new
+        ≡ Some (begin_of_start by starts.TextLine (seen_view line.now))) }
 {
     leaf.kind = LeafKind::Run;
-    leaf.text.push(content(line))
+    leaf.text.push(content(line))?;
+    Ok(LeafLine::Stays)
 }
 
 /// Opens a leaf block with its first line, by what that starts. Returns what the line is to it. A leaf of
@@ -141,13 +143,10 @@ pub(crate) fn begin_leaf(
         (begin_of_start rules (seen start.now.found) (seen_view line.now))) }
 {
     match &start.found {
-        Start::TextLine => begin_run(leaf, line)?,
-        Start::IndentedCode => begin_code(leaf, line)?,
-        Start::Fence(fence) => begin_fence(alloc, rules, leaf, *fence, line)?,
-        Start::Html(kind) => return Ok(begin_html(leaf, *kind, line)?),
-        Start::Atx(_) | Start::Break | Start::QuoteMarker | Start::Item(_) => {
-            return Ok(LeafLine::Leaves);
-        }
+        Start::TextLine => begin_run(leaf, line),
+        Start::IndentedCode => begin_code(leaf, line),
+        Start::Fence(fence) => begin_fence(alloc, rules, leaf, *fence, line),
+        Start::Html(kind) => begin_html(leaf, *kind, line),
+        Start::Atx(_) | Start::Break | Start::QuoteMarker | Start::Item(_) => Ok(LeafLine::Leaves),
     }
-    Ok(LeafLine::Stays)
 }

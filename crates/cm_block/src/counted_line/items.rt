@@ -13,7 +13,7 @@ ghost use Rattle.cm_block.specs.steps.ContinuationViews.{StartsItem, StartsPlain
 
 use crate::counted_line::continuations::{reaches_or_is_blank, with_columns};
 use crate::counted_line::starts::begins_plain;
-use cm_scan::{ItemMarker, item_marker};
+use cm_scan::{ItemMarker, bullet_kind, item_marker};
 use cm_text::View;
 use cm_tree::ListKind;
 
@@ -87,10 +87,8 @@ fn quick_marker(text: &str) -> Option<(ItemMarker, usize)>
     ensures within { IfSome result (λ r. r.1 ≤ length text.now) }
 {
     let kind = match text.as_bytes() {
-        [b'-', b' ', ..] => ListKind::Dash,
-        [b'+', b' ', ..] => ListKind::Plus,
-        [b'*', b' ', ..] => ListKind::Star,
         [b'0'..=b'9', ..] => return item_marker(text, 0),
+        [bullet, b' ', ..] => bullet_kind(*bullet)?,
         _ => return None,
     };
     Some((ItemMarker { kind, digits: 0 }, 1))
