@@ -13,18 +13,19 @@ use Rattle.cm_tree.specs.declared.tree.ListKind.{ListKind}
 use Rattle.cm_tree.proofs.lemmas.RawWalks.{there-first, block_depth, item_depth}
 use Rattle.cm_text.specs.Limits.{LimitsView}
 use Rattle.cm_scan.specs.inlines.Brackets.{defined_in}
-use Rattle.std.specs.Prelude.{option_map, None, Result, IfOk, IfErr, OnOk}
+use Rattle.std.specs.Prelude.{Option, option_map, option_to_list, None, Some, Result, IfOk, IfErr, OnOk}
 use Rattle.std.proofs.lemmas.Result.{IfErr-weaker, IfOk-weaker}
 use Rattle.cm_tool.specs.declared.fault.Fault.{Fault}
 use Rattle.cm_tool.specs.declared.fault.Fault.TheVariants.{InlinesTooDeep}
+use Rattle.cm_inline.specs.declared.reading.InlineReader.{InlineReader}
 use Rattle.cm_tool.specs.declared.outlines.leaf_walk.LeafWalk.{LeafWalk}
 use Rattle.cm_tool.specs.declared.outlines.leaf_walk.Unread.{Unread}
-use Rattle.cm_tool.specs.Leaves.{depths_in, first_leaf_past, leaf_depths}
+use Rattle.cm_tool.specs.Leaves.{depths_in, first_leaf_past, first_past, leaf_depths}
 use Rattle.cm_tool.specs.Parsing.{TellsFault}
 use Rattle.cm_tool.specs.steps.Items.{items_leaf_depths, items_read}
-use Rattle.cm_tool.specs.steps.LeafWalks.{all_read, block_read_of, blocks_read_at, items_read_at, all_left, ArePlacedLeft, HasRead, HasReadAll, TellsOf}
-use Rattle.cm_tool.specs.steps.Numbering.{Passes, TellsLeaf}
-use Rattle.cm_tool.proofs.lemmas.RawWalkLemmas.{Left, left_next, left_told, left_none, first_told, none_past, quote_depths, list_depths}
+use Rattle.cm_tool.specs.steps.LeafWalks.{all_read, block_read_of, blocks_read_at, items_read_at, all_left, ArePlacedLeft, HasRead, HasReadAll, HasReadSome, TellsOf}
+use Rattle.cm_tool.specs.steps.Numbering.{Left, Passes, TellsLeaf}
+use Rattle.cm_tool.proofs.lemmas.RawWalkLemmas.{left_next, left_told, left_none, first_told, none_past, quote_depths, list_depths}
 
 -- ---- a walk that has read some leaves of the whole, so that the rest is left
 
@@ -163,31 +164,54 @@ pub next_chunk : (raw now : Raw) (top held : List RawBlock) (chunks later : List
 next_chunk raw now top held chunks later chunk none taken is =
     ap (λ blocks. blocks ++ all_blocks later) is ∙ sym (ap (λ blocks. blocks_in raw blocks ++ all_blocks chunks) none ∙ ap all_blocks taken)
 
--- a walk that has read some of the blocks that were left
-pub record Goes (first now : LeafWalk) : Type 0 where
-  pub limits : now.unread.limits ≡ first.unread.limits
-  pub placed : ArePlacedLeft now.unread
-  pub leaves : Left first.unread.limits.inlines first.next now.next (leaf_depths (all_left first.unread)) (leaf_depths (all_left now.unread))
+-- one block is read
+module _ (now : LeafWalk) (unread : Unread) (block : RawBlock) (limits : unread.limits ≡ now.unread.limits) (is : all_left now.unread ≡ block_read_of unread block ∷ all_left unread) where
+  abbrev pub some : List ℕ
+  some = depths_in (block_read_of unread block)
 
-module _ (first now : LeafWalk) (unread : Unread) (so_far : Goes first now) where
-  module _ (block : RawBlock) (limits : unread.limits ≡ now.unread.limits) (is : all_left now.unread ≡ block_read_of unread block ∷ all_left unread) where
-    limit_is : unread.limits ≡ first.unread.limits
-    limit_is = limits ∙ so_far.limits
+  abbrev pub rest : List ℕ
+  rest = leaf_depths (all_left unread)
 
-    left : Left first.unread.limits.inlines first.next now.next (leaf_depths (all_left first.unread)) (depths_in (block_read_of unread block) ++ leaf_depths (all_left unread))
-    left = subst (λ blocks. Left first.unread.limits.inlines first.next now.next (leaf_depths (all_left first.unread)) (leaf_depths blocks)) is so_far.leaves
+  left : Left now.unread.limits.inlines now.next now.next (leaf_depths (all_left now.unread)) (some ++ rest)
+  left = λ more. ap (λ blocks. first_past now.unread.limits.inlines now.next (leaf_depths blocks ++ more)) is
 
-    pub goes_next : (behind : LeafWalk) → ArePlacedLeft unread → behind.unread ≡ unread → Passes unread.limits.inlines now.next behind.next (depths_in (block_read_of unread block))
-        → Goes first behind
-    goes_next behind placed same passes = record {
-      limits = ap (λ unread. unread.limits) same ∙ limit_is;
-      placed = subst ArePlacedLeft (sym same) placed;
-      leaves = subst (λ unread. Left first.unread.limits.inlines first.next behind.next (leaf_depths (all_left first.unread)) (leaf_depths (all_left unread))) (sym same)
-          (left_next first.unread.limits.inlines first.next now.next behind.next (leaf_depths (all_left first.unread)) (depths_in (block_read_of unread block)) (leaf_depths (all_left unread)) left
-          (subst (λ limits. Passes limits.inlines now.next behind.next (depths_in (block_read_of unread block))) limit_is passes));
-    }
+  pub one_read : (behind : LeafWalk) → ArePlacedLeft unread → behind.unread ≡ unread → Passes unread.limits.inlines now.next behind.next some → HasReadSome now behind
+  one_read behind placed same passes = record {
+    limits = ap (λ unread. unread.limits) same ∙ limits;
+    placed = subst ArePlacedLeft (sym same) placed;
+    leaves = subst (λ unread. Left now.unread.limits.inlines now.next behind.next (leaf_depths (all_left now.unread)) (leaf_depths (all_left unread))) (sym same)
+        (left_next now.unread.limits.inlines now.next now.next behind.next (leaf_depths (all_left now.unread)) some rest left
+        (subst (λ limits. Passes limits.inlines now.next behind.next some) limits passes));
+  }
 
-    pub goes_told : (fault : Fault) → TellsLeaf fault unread.limits.inlines now.next (depths_in (block_read_of unread block)) → TellsOf first fault (leaf_depths (all_left first.unread))
-    goes_told fault told =
-        left_told first.unread.limits.inlines fault first.next now.next (leaf_depths (all_left first.unread)) (depths_in (block_read_of unread block)) (leaf_depths (all_left unread)) left
-        (subst (λ limits. TellsLeaf fault limits.inlines now.next (depths_in (block_read_of unread block))) limit_is told)
+  pub one_told : (fault : Fault) → TellsLeaf fault unread.limits.inlines now.next some → TellsOf now fault (leaf_depths (all_left now.unread))
+  one_told fault told =
+      left_told now.unread.limits.inlines fault now.next now.next (leaf_depths (all_left now.unread)) some rest left
+      (subst (λ limits. TellsLeaf fault limits.inlines now.next some) limits told)
+
+-- a block that is taken is the first of those that were left
+pub first_left : {next : Option Block} {block : Block} {left rest : List Block} → left ≡ option_to_list next ++ rest → next ≡ Some block → left ≡ block ∷ rest
+first_left {rest = rest} left is = left ∙ ap (λ n. option_to_list n ++ rest) is
+
+-- one call after another
+module _ (first now : LeafWalk) (so_far : HasReadSome first now) where
+  pub then_read : (behind : LeafWalk) → HasReadSome now behind → HasReadSome first behind
+  then_read behind more = record {
+    limits = more.limits ∙ so_far.limits;
+    placed = more.placed;
+    leaves = λ others. so_far.leaves others
+        ∙ subst (λ limits. Left limits.inlines now.next behind.next (leaf_depths (all_left now.unread)) (leaf_depths (all_left behind.unread))) so_far.limits more.leaves others;
+  }
+
+  pub then_told : (fault : Fault) → TellsOf now fault (leaf_depths (all_left now.unread)) → TellsOf first fault (leaf_depths (all_left first.unread))
+  then_told fault told more =
+      subst (λ leaf. TellsFault fault (option_map InlinesTooDeep leaf)) (sym (so_far.leaves more))
+      (subst (λ limits. TellsLeaf fault limits.inlines now.next (leaf_depths (all_left now.unread))) so_far.limits told more)
+
+-- what is read isn't seen in the reader's memory
+pub with_reader : {first now : LeafWalk} (reader : InlineReader) → HasReadSome first now → HasReadSome first (record now { reader = reader })
+with_reader reader has = record { limits = has.limits; placed = has.placed; leaves = has.leaves }
+
+pub nothing_left : (first now : LeafWalk) → all_left now.unread ≡ [] → HasReadSome first now → HasReadAll first now
+nothing_left first now none so_far =
+    left_none first.unread.limits.inlines first.next now.next (leaf_depths (all_left first.unread)) (leaf_depths (all_left now.unread)) (ap leaf_depths none) so_far.leaves

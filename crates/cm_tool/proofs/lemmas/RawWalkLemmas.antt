@@ -25,7 +25,7 @@ use Rattle.cm_tree.specs.RawBlocks.{Raw, block_in}
 use Rattle.cm_tool.specs.Leaves.{depths_in, depths_step, first_past, leaf_depths}
 use Rattle.cm_tool.specs.Parsing.{TellsFault}
 use Rattle.cm_tool.specs.steps.Items.{items_read, items_leaf_depths}
-use Rattle.cm_tool.specs.steps.Numbering.{Passes, TellsLeaf}
+use Rattle.cm_tool.specs.steps.Numbering.{Left, Passes, TellsLeaf}
 
 -- ---- chunks one after another
 
@@ -36,23 +36,19 @@ enclosed old started middle done start inside end first then last =
     last ∙ ap (λ t. t ++ end) (then ∙ ap (λ t. t ++ inside) first ∙ append_assoc old start inside) ∙ append_assoc old (start ++ inside) end
 
 module _ (limit : ℕ) where
-  -- Leaves of these depths have been read but for the rest: where the first of all has the one number, the first of the rest has the other.
-  abbrev pub Left : (first next : ℕ) (whole rest : List ℕ) → Type 0
-  Left first next whole rest = (more : List ℕ) → first_past limit first (whole ++ more) ≡ first_past limit next (rest ++ more)
-
-  pub left_next : (first next behind : ℕ) (whole some rest : List ℕ) → Left first next whole (some ++ rest) → Passes limit next behind some
-      → Left first behind whole rest
+  pub left_next : (first next behind : ℕ) (whole some rest : List ℕ) → Left limit first next whole (some ++ rest) → Passes limit next behind some
+      → Left limit first behind whole rest
   left_next first next behind whole some rest so_far pass more =
       so_far more ∙ ap (first_past limit next) (append_assoc some rest more) ∙ pass (rest ++ more)
 
-  pub left_told : (fault : Fault) (first next : ℕ) (whole some rest : List ℕ) → Left first next whole (some ++ rest) → TellsLeaf fault limit next some
+  pub left_told : (fault : Fault) (first next : ℕ) (whole some rest : List ℕ) → Left limit first next whole (some ++ rest) → TellsLeaf fault limit next some
       → TellsLeaf fault limit first whole
   left_told fault first next whole some rest so_far told more =
       subst (λ leaf. TellsFault fault (option_map InlinesTooDeep leaf))
       (sym (so_far more ∙ ap (first_past limit next) (append_assoc some rest more))) (told (rest ++ more))
 
-  pub left_none : (first next : ℕ) (whole rest : List ℕ) → rest ≡ [] → Left first next whole rest → Passes limit first next whole
-  left_none first next whole rest none so_far = subst (Left first next whole) none so_far
+  pub left_none : (first next : ℕ) (whole rest : List ℕ) → rest ≡ [] → Left limit first next whole rest → Passes limit first next whole
+  left_none first next whole rest none so_far = subst (Left limit first next whole) none so_far
 
   -- where the first leaf of all is the first of these
   pub none_past : (next : ℕ) (depths : List ℕ) → Passes limit 1 next depths → first_past limit 1 depths ≡ None

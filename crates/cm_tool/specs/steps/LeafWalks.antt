@@ -18,7 +18,7 @@ pub use Rattle.cm_tool.specs.Leaves.{depths_in, leaf_depths, first_leaf_past}
 pub use Rattle.cm_tool.specs.Parsing.{TellsFault}
 use Rattle.cm_tool.specs.steps.Items.{items_read}
 pub use Rattle.cm_tool.specs.steps.Items.{items_leaf_depths}
-use Rattle.cm_tool.specs.steps.Numbering.{Passes}
+use Rattle.cm_tool.specs.steps.Numbering.{Left, Passes}
 pub use Rattle.cm_tool.specs.steps.Numbering.{TellsLeaf}
 
 -- what is read of blocks: of one, of several, and of items
@@ -53,6 +53,12 @@ ArePlacedLeft unread = (unread.at ≤ length unread.top.items) × ArePlaced unre
 -- a call has read leaves of these depths, and none of them is past the limit
 abbrev pub HasRead : LeafWalk → LeafWalk → List ℕ → Type 0
 HasRead old new depths = (new.unread ≡ old.unread) × Passes old.unread.limits.inlines old.next new.next depths
+
+-- a call has read some of the blocks that were left, and the leaves of those that are left now come next
+pub record HasReadSome (old new : LeafWalk) : Type 0 where
+  pub limits : new.unread.limits ≡ old.unread.limits
+  pub placed : ArePlacedLeft new.unread
+  pub leaves : Left old.unread.limits.inlines old.next new.next (leaf_depths (all_left old.unread)) (leaf_depths (all_left new.unread))
 
 -- it has read all that was left
 abbrev pub HasReadAll : LeafWalk → LeafWalk → Type 0

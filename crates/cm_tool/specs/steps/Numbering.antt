@@ -9,6 +9,10 @@ use Rattle.cm_tool.specs.Parsing.{TellsFault}
 abbrev pub Passes : (limit first behind : ℕ) → (depths : List ℕ) → Type 0
 Passes limit first behind depths = (more : List ℕ) → first_past limit first (depths ++ more) ≡ first_past limit behind more
 
+-- Leaves of these depths have been read but for the rest: where the first of all has the one number, the first of the rest has the other.
+abbrev pub Left : (limit first next : ℕ) → (whole rest : List ℕ) → Type 0
+Left limit first next whole rest = (more : List ℕ) → first_past limit first (whole ++ more) ≡ first_past limit next (rest ++ more)
+
 -- why leaves of these depths aren't read, where the first of them has this number: the first past the limit, or lack of memory
 abbrev pub TellsLeaf : Fault → (limit first : ℕ) → (depths : List ℕ) → Type 0
 TellsLeaf fault limit first depths = (more : List ℕ) → TellsFault fault (option_map InlinesTooDeep (first_past limit first (depths ++ more)))

@@ -1,28 +1,19 @@
 //! The blocks of an outline with the inlines of their leaves.
-ghost use Rattle.std.specs.Prelude.{◌≡◌, ◌++◌, [], length, option_map, IfOk, IfErr, OnOk, None};
-ghost use Rattle.std.specs.List.{slice_range};
-ghost use Rattle.cm_tree.specs.RawBlocks.{IsBetween, IsPlaced, IsRange};
+ghost use Rattle.std.specs.Prelude.{◌≡◌, ◌++◌, [], length, option_map, option_to_list};
+ghost use Rattle.std.specs.Prelude.{IfOk, IfErr, OnOk, None};
+ghost use Rattle.cm_tree.specs.RawBlocks.{IsPlaced, IsRange};
 ghost use Rattle.cm_tool.specs.declared.fault.Fault.TheVariants as faults;
 ghost use Rattle.cm_tool.specs.steps.LeafWalks.{defined_in, with_inlines, depths_in, leaf_depths};
 ghost use Rattle.cm_tool.specs.steps.LeafWalks.{items_leaf_depths, first_leaf_past, block_read_of};
 ghost use Rattle.cm_tool.specs.steps.LeafWalks.{blocks_read_at, items_read_at, all_left, ArePlacedLeft};
-ghost use Rattle.cm_tool.specs.steps.LeafWalks.{HasRead, HasReadAll, TellsOf, TellsFault};
+ghost use Rattle.cm_tool.specs.steps.LeafWalks.{HasRead, HasReadAll, HasReadSome, TellsOf};
+ghost use Rattle.cm_tool.specs.steps.LeafWalks.{TellsFault};
 
 use crate::fault::Fault;
-use crate::outlines::leaf_walk::{LeafWalk, Unread};
+use crate::outlines::leaf_walk::LeafWalk;
 use cm_text::Limits;
 use cm_tree::{Block, Definitions, Items, RawBlock, RawTree, Text};
-use std::alloc::{AllocError, Global};
-
-impl Unread {
-    /// The text in a range of positions.
-    fn text(&self, from: u32, to: u32) -> Result<Text, AllocError>
-        requires { IsBetween self.now.raw.text from to }
-        ensures { IfOk result (λ text. text ≡ slice_range self.now.raw.text from to) }
-    {
-        Text::from_str(self.alloc, self.raw.text(from, to))
-    }
-}
+use std::alloc::Global;
 
 impl LeafWalk {
     /// A block with the inlines of its leaves.
@@ -35,6 +26,7 @@ impl LeafWalk {
         ensures told { IfErr result (λ fault. TellsOf self.old fault
             (depths_in (block_read_of self.old.unread block))) }
     {
+        let alloc = self.unread.alloc;
         match block {
             RawBlock::Paragraph { from, to } => Ok(Block::Paragraph(self.leaf(from, to)?)),
             RawBlock::Heading { level, from, to } => {
@@ -43,14 +35,12 @@ impl LeafWalk {
             }
             RawBlock::Code { info, text, to } => {
                 self.pass()?;
-                Ok(Block::Code {
-                    info: self.unread.text(info, text)?,
-                    text: self.unread.text(text, to)?,
-                })
+                let raw = &self.unread.raw;
+                Ok(Block::code(alloc, raw.text(info, text), raw.text(text, to))?)
             }
             RawBlock::Html { from, to } => {
                 self.pass()?;
-                let text = self.unread.text(from, to)?;
+                let text = Text::from_str(alloc, self.unread.raw.text(from, to))?;
                 Ok(Block::Html { text })
             }
             RawBlock::Break => {
@@ -64,11 +54,13 @@ impl LeafWalk {
                 to,
             } => {
                 self.pass()?;
-                Ok(Block::Definition {
-                    label: self.unread.text(label, dest)?,
-                    dest: self.unread.text(dest, title)?,
-                    title: self.unread.text(title, to)?,
-                })
+                let raw = &self.unread.raw;
+                Ok(Block::definition(
+                    alloc,
+                    raw.text(label, dest),
+                    raw.text(dest, title),
+                    raw.text(title, to),
+                )?)
             }
             RawBlock::Quote { from, to } => Ok(Block::Quote(self.blocks(from, to)?)),
             RawBlock::List {
@@ -119,6 +111,22 @@ impl LeafWalk {
         Ok(read)
     }
 
+    /// Takes the next block at the top level, and reads the inlines of its leaves.
+    pub(crate) fn next_block(&mut self) -> Result<Option<Block>, Fault>
+        requires { ArePlacedLeft self.old.unread }
+        ensures block { IfOk result (λ next.
+            all_left self.old.unread ≡ option_to_list next ++ all_left self.new.unread) }
+        ensures none { IfOk result (λ next. next ≡ None → all_left self.new.unread ≡ []) }
+        ensures passes { OnOk result (HasReadSome self.old self.new) }
+        ensures told { IfErr result (λ fault. TellsOf self.old fault
+            (leaf_depths (all_left self.old.unread))) }
+    {
+        let Some(block) = self.unread.next_block() else {
+            return Ok(None);
+        };
+        Ok(Some(self.block(block)?))
+    }
+
     /// Appends all blocks that are left, with the inlines of their leaves, to others.
     fn push_all(&mut self, read: &mut Items<Block>) -> Result<(), Fault>
         requires { ArePlacedLeft self.old.unread }
@@ -127,8 +135,7 @@ impl LeafWalk {
         ensures told { IfErr result (λ fault. TellsOf self.old fault
             (leaf_depths (all_left self.old.unread))) }
     {
-        while let Some(block) = self.unread.next_block() {
-            let block = self.block(block)?;
+        while let Some(block) = self.next_block()? {
             read.push(block)?;
         }
         Ok(())

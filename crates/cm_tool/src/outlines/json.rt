@@ -28,8 +28,7 @@ impl LeafWalk {
         ensures told { IfErr result (λ fault. TellsOf self.old fault
             (leaf_depths (all_left self.old.unread))) }
     {
-        while let Some(block) = self.unread.next_block() {
-            let block = self.block(block)?;
+        while let Some(block) = self.next_block()? {
             json.push(owners, &block)?;
             self.reader.let_go(block);
         }
@@ -37,7 +36,7 @@ impl LeafWalk {
     }
 
     /// The JSON of all blocks that are left, as those of a document whose lines have these owners.
-    fn json(&mut self, alloc: Global, owners: &LineOwners) -> Result<JsonText, Fault>
+    fn json(&mut self, owners: &LineOwners) -> Result<JsonText, Fault>
         requires { ArePlacedLeft self.old.unread }
         ensures json { IfOk result (λ json. json ≡ json_of (all_left self.old.unread) owners.now) }
         ensures is_json { OnOk result (IsJson (json_of (all_left self.old.unread) owners.now)
@@ -46,6 +45,7 @@ impl LeafWalk {
         ensures told { IfErr result (λ fault. TellsOf self.old fault
             (leaf_depths (all_left self.old.unread))) }
     {
+        let alloc = self.unread.alloc;
         let owners = owners.to_items(alloc)?;
         let owners = owners.as_slice();
         let text = JsonText::new(alloc)?;
@@ -79,5 +79,5 @@ pub(crate) fn leaves_json(
         (first_leaf_past limits.inlines (with_inlines limits.rules (defined_in definitions) blocks)))) }
 {
     let mut walk = LeafWalk::new(alloc, limits, definitions, blocks);
-    walk.json(alloc, &owners)
+    walk.json(&owners)
 }

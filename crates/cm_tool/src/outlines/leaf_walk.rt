@@ -65,7 +65,7 @@ impl Unread {
         ensures block { IfSome result (λ block.
             all_left self.old ≡ block_read_of self.new block ∷ all_left self.new) }
         ensures placed { IfSome result (λ block. IsPlaced self.new.raw block) }
-        ensures none { result ≡ None → all_left self.old ≡ [] }
+        ensures none { result ≡ None → (all_left self.old ≡ []) × (all_left self.new ≡ []) }
         ensures left { ArePlacedLeft self.new }
         ensures limits { self.new.limits ≡ self.old.limits }
     {

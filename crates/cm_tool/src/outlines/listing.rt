@@ -23,8 +23,7 @@ impl LeafWalk {
         ensures told { IfErr result (λ fault. TellsOf self.old fault
             (leaf_depths (all_left self.old.unread))) }
     {
-        while let Some(block) = self.unread.next_block() {
-            let block = self.block(block)?;
+        while let Some(block) = self.next_block()? {
             push_listed_block(listing, &block)?;
             self.reader.let_go(block);
         }
@@ -32,7 +31,7 @@ impl LeafWalk {
     }
 
     /// The listing of all blocks that are left, and of the owners of the lines.
-    fn listing(&mut self, alloc: Global, owners: &LineOwners) -> Result<Pages, Fault>
+    fn listing(&mut self, owners: &LineOwners) -> Result<Pages, Fault>
         requires { ArePlacedLeft self.old.unread }
         ensures listing { IfOk result (λ pages. pages ≡
             listing_of (all_left self.old.unread) owners.now) }
@@ -40,6 +39,7 @@ impl LeafWalk {
         ensures told { IfErr result (λ fault. TellsOf self.old fault
             (leaf_depths (all_left self.old.unread))) }
     {
+        let alloc = self.unread.alloc;
         let mut listing = Pages::new(alloc)?;
         self.push_listing(&mut listing)?;
         let owners = owners.to_items(alloc)?;
@@ -69,5 +69,5 @@ pub(crate) fn leaves_listing(
         (first_leaf_past limits.inlines (with_inlines limits.rules (defined_in definitions) blocks)))) }
 {
     let mut walk = LeafWalk::new(alloc, limits, definitions, blocks);
-    walk.listing(alloc, &owners)
+    walk.listing(&owners)
 }

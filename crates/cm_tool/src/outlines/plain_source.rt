@@ -102,15 +102,14 @@ impl LeafWalk {
         ensures told { IfErr result (λ fault. TellsOf self.old fault
             (leaf_depths (all_left self.old.unread))) }
     {
-        while let Some(block) = self.unread.next_block() {
-            let block = self.block(block)?;
+        while let Some(block) = self.next_block()? {
             source.push_cleared(self.unread.alloc, &mut self.reader, block)?;
         }
         Ok(())
     }
 
     /// The source of all blocks that are left without their definitions, or why they can't be spelled.
-    fn plain_source(&mut self, alloc: Global, rules: Rules) -> Result<Result<String, Why>, Fault>
+    fn plain_source(&mut self, rules: Rules) -> Result<Result<String, Why>, Fault>
         requires { ArePlacedLeft self.old.unread }
         ensures source { IfOk result (λ source.
             Spelled rules (without_definitions (all_left self.old.unread)) source) }
@@ -118,7 +117,7 @@ impl LeafWalk {
         ensures told { IfErr result (λ fault. TellsOf self.old fault
             (leaf_depths (all_left self.old.unread))) }
     {
-        let mut source = PlainSource::new(alloc, rules);
+        let mut source = PlainSource::new(self.unread.alloc, rules);
         self.push_plain_source(&mut source)?;
         Ok(source.finish()?)
     }
@@ -145,5 +144,5 @@ pub(crate) fn leaves_plain_source(
         (first_leaf_past limits.inlines (with_inlines limits.rules (defined_in definitions) blocks)))) }
 {
     let mut walk = LeafWalk::new(alloc, limits, definitions, blocks);
-    walk.plain_source(alloc, limits.rules())
+    walk.plain_source(limits.rules())
 }

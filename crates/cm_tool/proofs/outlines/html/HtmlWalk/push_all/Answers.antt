@@ -1,8 +1,9 @@
 use Rattle.std.proofs.Common.{◌≡◌, ◌∙◌, ◌++◌, ap, subst}
+use Rattle.std.proofs.lemmas.Result.{err_from_is_err_and}
 use Rattle.cm_tree.proofs.lemmas.RawWalks.{joined}
 use Rattle.cm_html.specs.Html.{alone, html_of, written}
 use Rattle.cm_tool.specs.steps.LeafWalks.{block_read_of, all_left}
-use Rattle.cm_tool.proofs.lemmas.LeafWalkLemmas.{goes_next}
+use Rattle.cm_tool.proofs.lemmas.LeafWalkLemmas.{one_read, one_told, then_read, then_told}
 use Rattle.cm_tool.proofs.outlines.html.HtmlWalk.push_all.Goals as goal
 
 pub loop-block-preserved : goal.loop-block-preserved
@@ -16,6 +17,13 @@ loop-block-preserved c =
           ∙ joined old c.turn.new.self (alone (written (block_read_of unread c.in-Some.block))) (html_of (all_left unread)) whole
           (subst (λ blocks. old ++ html_of blocks ≡ whole) c.in-Some.ensures.block c.loop-block.invariant.html)
           (c.in_ok-turn.ensures ∙ c.in_ok-push_block.ensures.pushed);
-      goes = goes_next c.args.self.now.walk c.loop-block.self.walk unread c.loop-block.invariant.goes c.in-Some.block c.in-Some.ensures.limits c.in-Some.ensures.block
-          c.push_block.new.self.walk c.in-Some.ensures.left has.0 has.1;
+      passes = then_read c.args.self.now.walk c.loop-block.self.walk c.loop-block.invariant.passes c.push_block.new.self.walk
+          (one_read c.loop-block.self.walk unread c.in-Some.block c.in-Some.ensures.limits c.in-Some.ensures.block c.push_block.new.self.walk c.in-Some.ensures.left has.0 has.1);
     }
+
+pub returns-in_err-push_block-clause-told : goal.returns-in_err-push_block-clause-told
+returns-in_err-push_block-clause-told c =
+    let p = err_from_is_err_and c.from_residual.result c.from_residual.ensures.1 in
+    let unread = c.next_block.new.self in
+    let told = one_told c.loop-block.self.walk unread c.in-Some.block c.in-Some.ensures.limits c.in-Some.ensures.block c.in_err-push_block.field-0.0 c.in_err-push_block.ensures.told in
+    rw (p.1, p.2) (then_told c.args.self.now.walk c.loop-block.self.walk c.loop-block.invariant.passes c.in_err-push_block.field-0.0 told)

@@ -1,14 +1,13 @@
 use Rattle.std.proofs.Common.{◌≡◌, ◌++◌, length}
 use Rattle.cm_html.specs.Listing.{listed_blocks}
-use Rattle.cm_tool.specs.steps.LeafWalks.{all_left}
-use Rattle.cm_tool.proofs.lemmas.LeafWalkLemmas.{Goes}
+use Rattle.cm_tool.specs.steps.LeafWalks.{all_left, HasReadSome}
 use Rattle.cm_tool.proofs.outlines.leaf_walk.LeafWalk.push_listing.Given as goal
 
 -- what was written and what is left come to the whole
 abbrev pub invariant-loop-block : goal.invariant-loop-block
 invariant-loop-block l = record {
   listing : l.listing ++ listed_blocks 0 (all_left l.self.unread) ≡ l.initial.listing ++ listed_blocks 0 (all_left l.initial.self.unread);
-  goes : Goes l.initial.self l.self;
+  passes : HasReadSome l.initial.self l.self;
 }
 
 abbrev pub decreases-loop-block : goal.decreases-loop-block
