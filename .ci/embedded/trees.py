@@ -25,7 +25,7 @@ EXAMPLE = re.compile(r"^`{32} example\n(.*?)^\.\n(.*?)^`{32}$", re.M | re.S)
 
 
 def unescaped(text):
-    """Returns what the text of a table says, as the front of blocks.cases describes it."""
+    """Returns a text of a table with its escapes read, which blocks.cases describes."""
 
     def one(found):
         byte, character, count, inside, sign = found.groups()

@@ -1,4 +1,4 @@
-//! Cases of several lines. The front of `blocks.cases` says how such a table is written.
+//! Cases of several lines. `blocks.cases` describes the form.
 
 use crate::escapes::unescaped;
 use crate::trouble::{Trouble, wrong};

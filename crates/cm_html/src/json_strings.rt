@@ -26,7 +26,7 @@ impl Replaced for JsonEscaped {
     }
 }
 
-/// Writes a text as it stands in a string of JSON, without the quotes round it.
+/// Writes a text as the content of a JSON string, without the quotes.
 pub(crate) fn push_json_escaped(out: &mut String, text: &str) -> Result<(), AllocError>
     ensures { OnOk result (string_bytes out.new ≡ string_bytes out.old ++ json.escape text.now) }
 {

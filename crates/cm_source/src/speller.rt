@@ -103,7 +103,7 @@ impl Speller {
     /// returns for them, whatever follows; the speller is then unchanged. `NoMemory` if a request for memory
     /// was refused, and from then on.
     pub fn push(&mut self, block: &Block) -> Result<(), SourceFault>
-        // If it stood for these blocks, it then stands for them and the block.
+        // If it has spelled these blocks, it has then spelled them and the block.
         ensures stands { OnOk result ((rules : text_rules.Rules) (blocks : List trees.Block) →
             HasSpelled rules self.old blocks → HasSpelled rules self.new (blocks ++ block.now ∷ [])) }
         ensures told { IfErr result (λ fault. (rules : text_rules.Rules) (blocks : List trees.Block) →

@@ -9,8 +9,8 @@ ghost use Rattle.cm_source.specs.Reasons.{reason_text};
 use std::error::Error;
 use std::fmt;
 
-/// Why a tree can't be spelled: what is wrong with its first node, in the order of the document, that no
-/// source gives or that its spelling wouldn't give back.
+/// Why a tree can't be spelled: what is wrong with the first node, in the order of the document, that no
+/// source gives or that its own source wouldn't read back as.
 #[derive(Clone, Copy, Debug, PartialEq, Eq, Drop)]
 pub enum Why {
     /// A link reference definition.

@@ -129,7 +129,7 @@ impl LineBuffer {
     /// A fault is returned as soon as the bytes settle it, however they continue.
     pub fn push(&mut self, piece: &[u8]) -> Result<(), TextFault>
         requires { self.old.ended ≡ false }
-        // If it stood for these bytes, it then stands for them and the piece.
+        // If it has read these bytes, it has then read them and the piece.
         ensures stands { self.old.fault ≡ None → (bytes : List ℕ) (taken : ℕ) →
             StandsFor self.old bytes taken → StandsFor self.new (bytes ++ piece.now) taken }
         // A fault is returned exactly where the bytes settle it.
