@@ -1,5 +1,5 @@
 -- Lines of a buffer that have been passed.
-use Rattle.std.proofs.Common.{◌≡◌, ◌∙◌, ℕ, ◌+◌, ◌≤◌, List, [], ◌∷◌, ◌++◌, ap, sym, subst, arith, drop, length, append_assoc, length-append, refl}
+use Rattle.std.proofs.Common.{◌≡◌, ◌∙◌, ℕ, ◌+◌, ◌≤◌, List, [], ◌∷◌, ◌++◌, ap, sym, subst, arith, drop, length, append_assoc, length-append, append-nil, refl}
 use Rattle.cm_text.specs.Lines.{LineView}
 use Rattle.cm_text.specs.Feed.{Feed, StandsFor, with_ready}
 use Rattle.cm_text.specs.Lines.{plain_lines_of, lines_of, plain_line}
@@ -60,3 +60,17 @@ hands_then old middle new before between after first second = (
   passed_then old middle new first.0 second.0 first.1 second.1,
   λ lines h. subst (HasTaken after) (append_assoc lines first.0 second.0) (second.2 (lines ++ first.0) (first.2 lines h)),
 )
+
+-- all
+module _ (old new : Feed) (before after : BlockParser) (hands : Hands old before new after) (none : new.cut.ended ≡ []) where
+  front : hands.0 ≡ old.cut.ended
+  front = sym (append-nil hands.0) ∙ ap (λ t. hands.0 ++ t) (sym none) ∙ hands.1.parts
+
+  pub all_passed : new ≡ with_ready [] old
+  all_passed = hands.1.same ∙ ap (λ t. with_ready t old) none
+
+  pub all_stands : (bytes : List ℕ) (taken : ℕ) → StandsFor old bytes taken → StandsFor new bytes (taken + length old.cut.ended)
+  all_stands bytes taken h = subst (λ t. StandsFor new bytes (taken + length t)) front (hands.1.stands bytes taken h)
+
+  pub all_handed : (lines : List LineView) → HasTaken before lines → HasTaken after (lines ++ old.cut.ended)
+  all_handed lines h = subst (λ t. HasTaken after (lines ++ t)) front (hands.2 lines h)

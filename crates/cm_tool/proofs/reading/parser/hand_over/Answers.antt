@@ -3,7 +3,7 @@ use Rattle.std.proofs.lemmas.Result.{err_from_is_err_and}
 use Rattle.cm_text.specs.Views.{seen_view}
 use Rattle.cm_block.specs.Parser.{HasTaken}
 use Rattle.cm_tool.proofs.lemmas.ParserLemmas.{taken_told, too_much_told}
-use Rattle.cm_tool.proofs.lemmas.PassedLemmas.{one_passed, hands_then}
+use Rattle.cm_tool.proofs.lemmas.PassedLemmas.{all_handed, all_passed, all_stands, one_passed, hands_then}
 use Rattle.cm_tool.proofs.reading.parser.hand_over.Goals as goal
 
 pub loop-feed-preserved : goal.loop-feed-preserved
@@ -34,3 +34,18 @@ pub returns-in_err-hand_over_text-clause-told : goal.returns-in_err-hand_over_te
 returns-in_err-hand_over_text-clause-told c =
     let p = err_from_is_err_and c.from_residual.result c.from_residual.ensures.1 in
     rw (p.1, p.2) (λ lines h are. too_much_told c.in_err-hand_over_text.field-0.0 c.args.blocks.now.limits (lines ++ c.args.feed.now.cut.ended) c.in_err-hand_over_text.ensures.memory)
+
+pub returns-in_default-clause-ready : goal.returns-in_default-clause-ready
+returns-in_default-clause-ready c =
+    let hands = hands_then c.args.feed.now c.loop-feed.feed c.hand_over_text.new.feed c.args.blocks.now c.loop-feed.blocks c.hand_over_text.new.blocks c.loop-feed.invariant.handed c.in_ok-hand_over_text.ensures.handed in
+    all_passed c.args.feed.now c.hand_over_text.new.feed c.args.blocks.now c.hand_over_text.new.blocks hands c.in_default.ensures.none
+
+pub returns-in_default-clause-stands : goal.returns-in_default-clause-stands
+returns-in_default-clause-stands c =
+    let hands = hands_then c.args.feed.now c.loop-feed.feed c.hand_over_text.new.feed c.args.blocks.now c.loop-feed.blocks c.hand_over_text.new.blocks c.loop-feed.invariant.handed c.in_ok-hand_over_text.ensures.handed in
+    all_stands c.args.feed.now c.hand_over_text.new.feed c.args.blocks.now c.hand_over_text.new.blocks hands c.in_default.ensures.none
+
+pub returns-in_default-clause-handed : goal.returns-in_default-clause-handed
+returns-in_default-clause-handed c =
+    let hands = hands_then c.args.feed.now c.loop-feed.feed c.hand_over_text.new.feed c.args.blocks.now c.loop-feed.blocks c.hand_over_text.new.blocks c.loop-feed.invariant.handed c.in_ok-hand_over_text.ensures.handed in
+    all_handed c.args.feed.now c.hand_over_text.new.feed c.args.blocks.now c.hand_over_text.new.blocks hands c.in_default.ensures.none
