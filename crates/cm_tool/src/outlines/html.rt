@@ -23,54 +23,47 @@ use cm_text::Limits;
 use cm_tree::{Definitions, RawBlock, RawItem, RawTree};
 use std::alloc::Global;
 
-/// A walk over an outline, and the HTML of what has been read.
-#[derive(Drop)]
-struct HtmlWalk {
-    walk: LeafWalk,
-    html: Pages,
-}
-
-impl HtmlWalk {
+impl LeafWalk {
     /// Adds the HTML of a block outside of items.
     #[cycle(html)]
-    fn push_block(&mut self, block: RawBlock) -> Result<(), Fault>
-        requires { IsPlaced self.old.walk.unread.raw block }
-        ensures pushed { OnOk result (self.new.html ≡
-            self.old.html ++ alone (written (block_read_of self.old.walk.unread block))) }
-        ensures passes { OnOk result (HasRead self.old.walk self.new.walk
-            (depths_in (block_read_of self.old.walk.unread block))) }
-        ensures told { IfErr result (λ fault. TellsOf self.old.walk fault
-            (depths_in (block_read_of self.old.walk.unread block))) }
+    fn push_block(&mut self, html: &mut Pages, block: RawBlock) -> Result<(), Fault>
+        requires { IsPlaced self.old.unread.raw block }
+        ensures pushed { OnOk result (html.new ≡
+            html.old ++ alone (written (block_read_of self.old.unread block))) }
+        ensures passes { OnOk result (HasRead self.old self.new
+            (depths_in (block_read_of self.old.unread block))) }
+        ensures told { IfErr result (λ fault. TellsOf self.old fault
+            (depths_in (block_read_of self.old.unread block))) }
     {
         match block {
             RawBlock::Paragraph { from, to } => {
-                self.html.push_str(Element::Paragraph.start())?;
-                self.walk.push_leaf(&mut self.html, from, to)?;
-                self.html.push_str(Element::Paragraph.end())?;
+                html.push_str(Element::Paragraph.start())?;
+                self.push_leaf(html, from, to)?;
+                html.push_str(Element::Paragraph.end())?;
             }
             RawBlock::Heading { level, from, to } => {
-                push_heading_start(&mut self.html, level)?;
-                self.walk.push_leaf(&mut self.html, from, to)?;
-                push_heading_end(&mut self.html, level)?;
+                push_heading_start(html, level)?;
+                self.push_leaf(html, from, to)?;
+                push_heading_end(html, level)?;
             }
             RawBlock::Code { info, text, to } => {
-                self.walk.pass()?;
-                let raw = &self.walk.unread.raw;
-                push_code(&mut self.html, raw.text(info, text), raw.text(text, to))?;
+                self.pass()?;
+                let raw = &self.unread.raw;
+                push_code(html, raw.text(info, text), raw.text(text, to))?;
             }
             RawBlock::Html { from, to } => {
-                self.walk.pass()?;
-                self.html.push_str(self.walk.unread.raw.text(from, to))?;
+                self.pass()?;
+                html.push_str(self.unread.raw.text(from, to))?;
             }
             RawBlock::Break => {
-                self.walk.pass()?;
-                push_break(&mut self.html)?;
+                self.pass()?;
+                push_break(html)?;
             }
-            RawBlock::Definition { .. } => self.walk.pass()?,
+            RawBlock::Definition { .. } => self.pass()?,
             RawBlock::Quote { from, to } => {
-                self.html.push_str(Element::Quote.start())?;
-                self.push_blocks(from, to)?;
-                self.html.push_str(Element::Quote.end())?;
+                html.push_str(Element::Quote.start())?;
+                self.push_blocks(html, from, to)?;
+                html.push_str(Element::Quote.end())?;
             }
             RawBlock::List {
                 kind,
@@ -78,9 +71,9 @@ impl HtmlWalk {
                 from,
                 to,
             } => {
-                push_list_start(&mut self.html, kind)?;
-                self.push_items(tight, from, to)?;
-                push_list_end(&mut self.html, kind)?;
+                push_list_start(html, kind)?;
+                self.push_items(html, tight, from, to)?;
+                push_list_end(html, kind)?;
             }
         }
         Ok(())
@@ -88,93 +81,99 @@ impl HtmlWalk {
 
     /// Adds the HTML of the blocks in a range of positions.
     #[cycle(html)]
-    fn push_blocks(&mut self, from: u32, to: u32) -> Result<(), Fault>
-        requires { IsRange (length self.old.walk.unread.raw.blocks) from to }
-        ensures pushed { OnOk result (self.new.html ≡
-            self.old.html ++ html_of (blocks_read_at self.old.walk.unread from to)) }
-        ensures passes { OnOk result (HasRead self.old.walk self.new.walk
-            (leaf_depths (blocks_read_at self.old.walk.unread from to))) }
-        ensures told { IfErr result (λ fault. TellsOf self.old.walk fault
-            (leaf_depths (blocks_read_at self.old.walk.unread from to))) }
+    fn push_blocks(&mut self, html: &mut Pages, from: u32, to: u32) -> Result<(), Fault>
+        requires { IsRange (length self.old.unread.raw.blocks) from to }
+        ensures pushed { OnOk result (html.new ≡
+            html.old ++ html_of (blocks_read_at self.old.unread from to)) }
+        ensures passes { OnOk result (HasRead self.old self.new
+            (leaf_depths (blocks_read_at self.old.unread from to))) }
+        ensures told { IfErr result (λ fault. TellsOf self.old fault
+            (leaf_depths (blocks_read_at self.old.unread from to))) }
     {
         for at in from..to {
-            let block = self.walk.unread.raw.block_at(at);
-            self.push_block(block)?;
+            let block = self.unread.raw.block_at(at);
+            self.push_block(html, block)?;
         }
         Ok(())
     }
 
     /// Adds the HTML of the items in a range of positions.
     #[cycle(html)]
-    fn push_items(&mut self, tight: bool, from: u32, to: u32) -> Result<(), Fault>
-        requires { IsRange (length self.old.walk.unread.raw.items) from to }
-        ensures pushed { OnOk result (self.new.html ≡
-            self.old.html ++ items_html tight
-            (map (map written) (items_read_at self.old.walk.unread from to))) }
-        ensures passes { OnOk result (HasRead self.old.walk self.new.walk
-            (items_leaf_depths (items_read_at self.old.walk.unread from to))) }
-        ensures told { IfErr result (λ fault. TellsOf self.old.walk fault
-            (items_leaf_depths (items_read_at self.old.walk.unread from to))) }
+    fn push_items(&mut self, html: &mut Pages, tight: bool, from: u32, to: u32) -> Result<(), Fault>
+        requires { IsRange (length self.old.unread.raw.items) from to }
+        ensures pushed { OnOk result (html.new ≡
+            html.old ++ items_html tight
+            (map (map written) (items_read_at self.old.unread from to))) }
+        ensures passes { OnOk result (HasRead self.old self.new
+            (items_leaf_depths (items_read_at self.old.unread from to))) }
+        ensures told { IfErr result (λ fault. TellsOf self.old fault
+            (items_leaf_depths (items_read_at self.old.unread from to))) }
     {
         for at in from..to {
-            let item = self.walk.unread.raw.item_at(at);
-            self.push_item(tight, item)?;
+            let item = self.unread.raw.item_at(at);
+            self.push_item(html, tight, item)?;
         }
         Ok(())
     }
 
     /// Adds the HTML of an item.
     #[cycle(html)]
-    fn push_item(&mut self, tight: bool, item: RawItem) -> Result<(), Fault>
-        requires { IsItem self.old.walk.unread.raw item }
-        ensures pushed { OnOk result (self.new.html ≡
-            self.old.html ++ item_html tight
-            (map written (blocks_read_at self.old.walk.unread item.from item.to))) }
-        ensures passes { OnOk result (HasRead self.old.walk self.new.walk
-            (leaf_depths (blocks_read_at self.old.walk.unread item.from item.to))) }
-        ensures told { IfErr result (λ fault. TellsOf self.old.walk fault
-            (leaf_depths (blocks_read_at self.old.walk.unread item.from item.to))) }
+    fn push_item(&mut self, html: &mut Pages, tight: bool, item: RawItem) -> Result<(), Fault>
+        requires { IsItem self.old.unread.raw item }
+        ensures pushed { OnOk result (html.new ≡
+            html.old ++ item_html tight
+            (map written (blocks_read_at self.old.unread item.from item.to))) }
+        ensures passes { OnOk result (HasRead self.old self.new
+            (leaf_depths (blocks_read_at self.old.unread item.from item.to))) }
+        ensures told { IfErr result (λ fault. TellsOf self.old fault
+            (leaf_depths (blocks_read_at self.old.unread item.from item.to))) }
     {
-        self.html.push_str(Element::Item.start())?;
+        html.push_str(Element::Item.start())?;
         let mut fresh = true;
         for at in item.from..item.to {
-            let block = self.walk.unread.raw.block_at(at);
-            fresh = self.push_inside(tight, fresh, block)?;
+            let block = self.unread.raw.block_at(at);
+            fresh = self.push_inside(html, tight, fresh, block)?;
         }
-        self.html.push_str(Element::Item.end())?;
+        html.push_str(Element::Item.end())?;
         Ok(())
     }
 
     /// Adds the HTML of a block in an item. `fresh` says that it starts on a new line, unless it is a
     /// paragraph of a tight list. Returns `fresh` for the next block.
     #[cycle(html)]
-    fn push_inside(&mut self, tight: bool, fresh: bool, block: RawBlock) -> Result<bool, Fault>
-        requires { IsPlaced self.old.walk.unread.raw block }
+    fn push_inside(
+        &mut self,
+        html: &mut Pages,
+        tight: bool,
+        fresh: bool,
+        block: RawBlock,
+    ) -> Result<bool, Fault>
+        requires { IsPlaced self.old.unread.raw block }
         ensures pushed { IfOk result (λ mark. (others : List Written)
-            → self.new.html ++ inside_from tight mark others
-            ≡ self.old.html ++ inside_from tight fresh
-            (written (block_read_of self.old.walk.unread block) ∷ others)) }
-        ensures passes { OnOk result (HasRead self.old.walk self.new.walk
-            (depths_in (block_read_of self.old.walk.unread block))) }
-        ensures told { IfErr result (λ fault. TellsOf self.old.walk fault
-            (depths_in (block_read_of self.old.walk.unread block))) }
+            → html.new ++ inside_from tight mark others
+            ≡ html.old ++ inside_from tight fresh
+            (written (block_read_of self.old.unread block) ∷ others)) }
+        ensures passes { OnOk result (HasRead self.old self.new
+            (depths_in (block_read_of self.old.unread block))) }
+        ensures told { IfErr result (λ fault. TellsOf self.old fault
+            (depths_in (block_read_of self.old.unread block))) }
     {
         match block {
             RawBlock::Definition { .. } => {
-                self.walk.pass()?;
+                self.pass()?;
                 Ok(fresh)
             }
             RawBlock::Paragraph { from, to } => {
                 if tight {
-                    self.walk.push_leaf(&mut self.html, from, to)?;
+                    self.push_leaf(html, from, to)?;
                     Ok(true)
                 } else {
-                    self.push_apart(fresh, block)?;
+                    self.push_apart(html, fresh, block)?;
                     Ok(false)
                 }
             }
             _ => {
-                self.push_apart(fresh, block)?;
+                self.push_apart(html, fresh, block)?;
                 Ok(false)
             }
         }
@@ -183,36 +182,49 @@ impl HtmlWalk {
     /// Adds the HTML of a block, on a new line if `fresh`.
     #[cycle(html)]
     #[inline(always)]
-    fn push_apart(&mut self, fresh: bool, block: RawBlock) -> Result<(), Fault>
-        requires { IsPlaced self.old.walk.unread.raw block }
-        ensures pushed { OnOk result (self.new.html ≡
-            self.old.html ++ (line_feed fresh
-            ++ alone (written (block_read_of self.old.walk.unread block)))) }
-        ensures passes { OnOk result (HasRead self.old.walk self.new.walk
-            (depths_in (block_read_of self.old.walk.unread block))) }
-        ensures told { IfErr result (λ fault. TellsOf self.old.walk fault
-            (depths_in (block_read_of self.old.walk.unread block))) }
+    fn push_apart(&mut self, html: &mut Pages, fresh: bool, block: RawBlock) -> Result<(), Fault>
+        requires { IsPlaced self.old.unread.raw block }
+        ensures pushed { OnOk result (html.new ≡
+            html.old ++ (line_feed fresh
+            ++ alone (written (block_read_of self.old.unread block)))) }
+        ensures passes { OnOk result (HasRead self.old self.new
+            (depths_in (block_read_of self.old.unread block))) }
+        ensures told { IfErr result (λ fault. TellsOf self.old fault
+            (depths_in (block_read_of self.old.unread block))) }
     {
         if fresh {
-            self.html.push_str("\n")?;
+            html.push_str("\n")?;
         }
-        self.push_block(block)
+        self.push_block(html, block)
     }
 
     /// Adds the HTML of all blocks that are left.
-    fn push_all(&mut self) -> Result<(), Fault>
-        requires { ArePlacedLeft self.old.walk.unread }
-        ensures pushed { OnOk result (self.new.html ≡
-            self.old.html ++ html_of (all_left self.old.walk.unread)) }
-        ensures passes { OnOk result (HasReadAll self.old.walk self.new.walk) }
-        ensures told { IfErr result (λ fault. TellsOf self.old.walk fault
-            (leaf_depths (all_left self.old.walk.unread))) }
+    fn push_html(&mut self, html: &mut Pages) -> Result<(), Fault>
+        requires { ArePlacedLeft self.old.unread }
+        ensures pushed { OnOk result (html.new ≡
+            html.old ++ html_of (all_left self.old.unread)) }
+        ensures passes { OnOk result (HasReadAll self.old self.new) }
+        ensures told { IfErr result (λ fault. TellsOf self.old fault
+            (leaf_depths (all_left self.old.unread))) }
     {
-        while let Some(block) = self.walk.unread.next_block() {
-            self.push_block(block)?;
-            self.html.turn()?;
+        while let Some(block) = self.unread.next_block() {
+            self.push_block(html, block)?;
+            html.turn()?;
         }
         Ok(())
+    }
+
+    /// The HTML of all blocks that are left. The first page has room for this number of bytes.
+    fn html(&mut self, room: usize) -> Result<Pages, Fault>
+        requires { ArePlacedLeft self.old.unread }
+        ensures html { IfOk result (λ pages. pages ≡ html_of (all_left self.old.unread)) }
+        ensures passes { OnOk result (HasReadAll self.old self.new) }
+        ensures told { IfErr result (λ fault. TellsOf self.old fault
+            (leaf_depths (all_left self.old.unread))) }
+    {
+        let mut html = Pages::with_room(self.unread.alloc, room)?;
+        self.push_html(&mut html)?;
+        Ok(html)
     }
 }
 
@@ -237,9 +249,6 @@ pub(crate) fn leaves_html(
     ensures told { IfErr result (λ fault. TellsFault fault (option_map faults.InlinesTooDeep
         (first_leaf_past limits.inlines (with_inlines limits.rules (defined_in definitions) blocks)))) }
 {
-    let html = Pages::with_room(alloc, room)?;
-    let walk = LeafWalk::new(alloc, limits, definitions, blocks);
-    let mut walk = HtmlWalk { walk, html };
-    walk.push_all()?;
-    Ok(walk.html)
+    let mut walk = LeafWalk::new(alloc, limits, definitions, blocks);
+    walk.html(room)
 }

@@ -1,20 +1,18 @@
-use Rattle.std.proofs.lemmas.Result.{err_from_is_err_and}
-use Rattle.cm_scan.specs.inlines.Brackets.{defined_in}
-use Rattle.cm_scan.specs.Documents.{with_inlines}
-use Rattle.cm_tool.proofs.lemmas.LeafWalkLemmas.{begun_told, begun_within}
+use Rattle.std.proofs.Common.{◌≡◌, subst}
+use Rattle.std.specs.Prelude.{IfOk}
+use Rattle.cm_html.specs.Html.{html_of}
+use Rattle.cm_tool.proofs.lemmas.LeafWalkLemmas.{walk_told, walk_within}
 use Rattle.cm_tool.proofs.outlines.html.leaves_html.Goals as goal
 
-pub returns-in_err-push_all-clause-told : goal.returns-in_err-push_all-clause-told
-returns-in_err-push_all-clause-told c =
-    let p = err_from_is_err_and c.from_residual-in_err-push_all.result c.from_residual-in_err-push_all.ensures.1 in
-    let limits = c.args.limits in
-    let new = c.new-walk.ensures in
-    rw (p.1, p.2) (begun_told c.new-walk.result limits (with_inlines limits.rules (defined_in c.args.definitions) c.args.blocks) new.first new.limits new.all
-    c.in_err-push_all.field-0.0 c.in_err-push_all.ensures.told)
+pub returns-clause-html : goal.returns-clause-html
+returns-clause-html c = subst (λ blocks. IfOk c.html.result (λ pages. pages ≡ html_of blocks)) c.new-walk.ensures.all c.html.ensures.html
 
 pub returns-clause-within : goal.returns-clause-within
 returns-clause-within c =
-    let limits = c.args.limits in
     let new = c.new-walk.ensures in
-    begun_within c.new-walk.result limits (with_inlines limits.rules (defined_in c.args.definitions) c.args.blocks) new.first new.limits new.all
-    c.push_all.new.self.walk.next c.in_ok-push_all.ensures.passes
+    walk_within c.new-walk.result c.args.limits _ new.first new.limits new.all c.html.result c.html.new.self c.html.ensures.passes
+
+pub returns-clause-told : goal.returns-clause-told
+returns-clause-told c =
+    let new = c.new-walk.ensures in
+    walk_told c.new-walk.result c.args.limits _ new.first new.limits new.all c.html.result c.html.ensures.told
