@@ -127,18 +127,19 @@ impl LeafWalk {
         Ok(Some(self.block(block)?))
     }
 
-    /// Appends all blocks that are left, with the inlines of their leaves, to others.
-    fn push_all(&mut self, read: &mut Items<Block>) -> Result<(), Fault>
+    /// All blocks that are left, with the inlines of their leaves.
+    fn all_blocks(&mut self) -> Result<Items<Block>, Fault>
         requires { ArePlacedLeft self.old.unread }
-        ensures read { OnOk result (read.new ≡ read.old ++ all_left self.old.unread) }
+        ensures read { IfOk result (λ read. read ≡ all_left self.old.unread) }
         ensures passes { OnOk result (HasReadAll self.old self.new) }
         ensures told { IfErr result (λ fault. TellsOf self.old fault
             (leaf_depths (all_left self.old.unread))) }
     {
+        let mut read = Items::new(self.unread.alloc);
         while let Some(block) = self.next_block()? {
             read.push(block)?;
         }
-        Ok(())
+        Ok(read)
     }
 }
 
@@ -156,12 +157,11 @@ pub(crate) fn read_leaves(
     blocks: RawTree,
 ) -> Result<Items<Block>, Fault>
     ensures read { IfOk result (λ read. read ≡ with_inlines limits.rules (defined_in definitions) blocks) }
-    ensures within { IfOk result (λ read. first_leaf_past limits.inlines read ≡ None) }
+    ensures within { IfOk result (λ _.
+        first_leaf_past limits.inlines (with_inlines limits.rules (defined_in definitions) blocks) ≡ None) }
     ensures told { IfErr result (λ fault. TellsFault fault (option_map faults.InlinesTooDeep
         (first_leaf_past limits.inlines (with_inlines limits.rules (defined_in definitions) blocks)))) }
 {
     let mut walk = LeafWalk::new(alloc, limits, definitions, blocks);
-    let mut read = Items::new(alloc);
-    walk.push_all(&mut read)?;
-    Ok(read)
+    walk.all_blocks()
 }
