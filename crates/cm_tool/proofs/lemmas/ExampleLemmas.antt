@@ -1,11 +1,12 @@
 -- The examples of a file, part by part.
-use Rattle.std.proofs.Common.{◌≡◌, ◌∙◌, ◌+◌, ◌++◌, ◌^◌, ℕ, zero, suc, Bool, true, false, cond, List, [], ◌∷◌, Option, Some, None, refl, sym, ap, ap₂, map, append_assoc, add-one, get_or, ◌<◌, ◌≤◌, drop, ne_eqb, subst, length, length-append, arith, IsUtf8}
+use Rattle.std.proofs.Common.{◌≡◌, ◌∙◌, ◌+◌, ◌++◌, ◌^◌, ℕ, zero, suc, Bool, true, false, cond, List, [], ◌∷◌, Option, Some, None, refl, sym, ap, ap₂, map, append_assoc, append-nil, add-one, get_or, ◌<◌, ◌≤◌, drop, ne_eqb, subst, length, length-append, arith, IsUtf8}
 use Rattle.std.specs.List.{count_by}
 use Rattle.std.specs.Option.{option_or}
 use Rattle.cm_tool.specs.Writing.{converted}
 use Rattle.std.specs.Prelude.{Result, string_bytes, unwrap_or, Ok, Err, OnOk, is_ok, option_map}
 use Rattle.std.specs.Str.{bytes_eq, chars}
 use Rattle.std.proofs.lemmas.Bool.{and_parts}
+use Rattle.std.proofs.lemmas.List.{length-map}
 use Rattle.std.proofs.lemmas.List.Sums.{sum_by-cons}
 use Rattle.std.proofs.lemmas.Str.{IsUtf8-nil, chars_from_encodes, chars_past_char, encode_same, length-encode, len_utf8_bounds}
 use lib.Utf8.{encode, encodes, scalars}
@@ -19,6 +20,7 @@ use Rattle.cm_tool.specs.ExampleFiles.{Example, Examines, examples_of, report_on
 use Rattle.cm_text.specs.Rules.{Rules}
 use Rattle.cm_tool.specs.declared.example_files.Example as code
 use Rattle.cm_tool.specs.declared.example_files.comparing.Difference.{Difference}
+use Rattle.cm_tool.specs.declared.example_files.comparing.Report.{Report}
 use Rattle.cm_tool.specs.steps.ExampleSteps.{Part, example_of, part_from}
 
 -- what comes of a file whose source is this, and of one whose HTML is this
@@ -240,3 +242,26 @@ source_told rules text examples fault found h = by_fault fault h
     by_fault (Unspellable why) h = absurd h
     by_fault (BadExampleFile line) h = absurd h
     by_fault (ExampleDiffers number) h = absurd h
+
+-- all have been compared
+module _ (rules : Rules) (text : List ℕ) (examples : List code.Example) (report : Report) (at : ℕ) (found : examples_of text ≡ Ok (map example_of examples))
+    (none : drop at examples ≡ []) (so_far : SoFar rules examples report.agree report.differ.items at) where
+  abbrev all : List Example
+  all = map example_of examples
+
+  all_sound : first_fault rules all ≡ None
+  all_sound = sym so_far.sound ∙ ap (λ xs. first_fault rules (map example_of xs)) none
+
+  all_agree : report.agree ≡ count_by (agrees rules) all
+  all_agree = omega (arith, so_far.agreed, ap (λ xs. count_by (agrees rules) (map example_of xs)) none)
+
+  all_differ : map difference_of report.differ.items ≡ differences_from rules 1 all
+  all_differ =
+      sym (append-nil (map difference_of report.differ.items))
+      ∙ ap (λ xs. map difference_of report.differ.items ++ differences_from rules (at + 1) (map example_of xs)) (sym none) ∙ so_far.differed
+
+  pub all_compared : report.total ≡ length examples → Examines (Ok report) rules text
+  all_compared total =
+      ap₂ (λ agree differ. Ok (record { total = report.total; agree = agree; differ = differ })) all_agree all_differ
+      ∙ ap (λ n. Ok (record { total = n; agree = count_by (agrees rules) all; differ = differences_from rules 1 all })) (total ∙ sym (length-map examples example_of))
+      ∙ sym (ap (reported rules) found ∙ ap (λ o. sound_report o rules all) all_sound)

@@ -1,8 +1,9 @@
-use Rattle.std.proofs.Common.{◌∙◌, ◌+◌, ap, ap₂, sym, map, [], ◌∷◌, ◌++◌, refl, string_bytes, Ok, true, false}
+use Rattle.std.proofs.Common.{◌≡◌, ◌∙◌, ◌+◌, rules, ap, ap₂, sym, map, [], ◌∷◌, ◌++◌, refl, length, string_bytes, Ok, true, false}
+use Rattle.std.proofs.lemmas.List.{drop_all}
 use Rattle.std.proofs.lemmas.Result.{err_from_is_err_and}
 use Rattle.cm_tool.specs.ExampleFiles.{difference_of}
 use Rattle.cm_tool.specs.steps.ExampleSteps.{example_of}
-use Rattle.cm_tool.proofs.lemmas.ExampleLemmas.{compared, drop_at, html_of_source, sound_source, told_of_source, one_agrees, one_differs, one_fault, source_told, standard_is}
+use Rattle.cm_tool.proofs.lemmas.ExampleLemmas.{all_compared, compared, drop_at, html_of_source, sound_source, told_of_source, one_agrees, one_differs, one_fault, source_told, standard_is}
 use Rattle.cm_tool.proofs.example_files.comparing.examples_by.Goals.{then-eq, else-eq+in_ok-clone+in_ok-push_difference}
 use Rattle.cm_tool.proofs.example_files.comparing.examples_by.Goals as goal
 
@@ -35,3 +36,10 @@ loop-at-preserved c =
           (compared c.args.rules e (string_bytes c.in_ok-got.got) (string_bytes e.html) c.eq.result false got refl c.eq.ensures w.if-eq.false)
           (w.in_ok-push_difference.ensures ∙ ap₂ (λ expected html. map difference_of c.loop-at.differ.items ++ record { number = c.loop-at.at + 1; expected = expected; got = html } ∷ []) w.in_ok-clone.ensures.cases got))
     ]
+
+pub returns : goal.returns
+returns c =
+    let items = c.deref-example-items.result.now in
+    let total : c.len.result ≡ length items = search rules in
+    all_compared c.args.rules c.args.text.now items (record { total = c.len.result; agree = c.loop-at.agree; differ = c.loop-at.differ }) c.loop-at.at (c.in_ok-examples.ensures.examples ∙ ap (λ xs. Ok (map example_of xs)) (sym c.deref-example-items.ensures.value))
+    (drop_all c.loop-at.at items c.loop-at-test.false) c.loop-at.invariant total
