@@ -20,14 +20,15 @@ use cm_json::JsonText;
 use cm_source::Why;
 use cm_text::Limits;
 use cm_tree::Doc;
-use document::read_leaves;
-use html::leaves_html;
-use json::leaves_json;
-use listing::leaves_listing;
-use plain_source::leaves_plain_source;
+use leaf_walk::LeafWalk;
 use std::alloc::Global;
 
 /// The document of an outline.
+///
+/// # Errors
+///
+/// `InlinesTooDeep` with the first leaf whose inlines nest deeper than the limit, `NoMemory` if a request for
+/// memory was refused.
 pub(crate) fn doc_of_outline(alloc: Global, limits: Limits, outline: Outline) -> Result<Doc, Fault>
     ensures { (bytes : List ℕ) → IsOutline limits bytes outline → Finishes result limits bytes }
 {
@@ -37,13 +38,17 @@ pub(crate) fn doc_of_outline(alloc: Global, limits: Limits, outline: Outline) ->
         definitions,
         ..
     } = outline;
-    let blocks = read_leaves(alloc, limits, definitions, blocks)?;
+    let blocks = LeafWalk::new(alloc, limits, definitions, blocks).all_blocks()?;
     let owners = owners.to_items(alloc)?;
     Ok(Doc { blocks, owners })
 }
 
 /// The HTML of an outline's document in pages. The first page has room for this number of bytes, up to a
 /// whole page.
+///
+/// # Errors
+///
+/// As `doc_of_outline`.
 pub(crate) fn html_of_outline(
     alloc: Global,
     limits: Limits,
@@ -61,10 +66,15 @@ pub(crate) fn html_of_outline(
     } = outline;
     // The HTML is written to the memory of the owners, which it doesn't show.
     drop(owners);
-    leaves_html(alloc, limits, definitions, blocks, room)
+    let mut walk = LeafWalk::new(alloc, limits, definitions, blocks);
+    walk.html(room)
 }
 
 /// The listing of an outline's document, in pages.
+///
+/// # Errors
+///
+/// As `doc_of_outline`.
 pub(crate) fn listing_of_outline(
     alloc: Global,
     limits: Limits,
@@ -79,10 +89,15 @@ pub(crate) fn listing_of_outline(
         definitions,
         ..
     } = outline;
-    leaves_listing(alloc, limits, definitions, blocks, owners)
+    let mut walk = LeafWalk::new(alloc, limits, definitions, blocks);
+    walk.listing(&owners)
 }
 
 /// The JSON of an outline's document.
+///
+/// # Errors
+///
+/// As `doc_of_outline`.
 pub(crate) fn json_of_outline(
     alloc: Global,
     limits: Limits,
@@ -98,10 +113,15 @@ pub(crate) fn json_of_outline(
         definitions,
         ..
     } = outline;
-    leaves_json(alloc, limits, definitions, blocks, owners)
+    let mut walk = LeafWalk::new(alloc, limits, definitions, blocks);
+    walk.json(&owners)
 }
 
 /// The plain source of an outline's document without its definitions, or why it can't be spelled.
+///
+/// # Errors
+///
+/// As `doc_of_outline`.
 pub(crate) fn plain_source_of_outline(
     alloc: Global,
     limits: Limits,
@@ -117,5 +137,6 @@ pub(crate) fn plain_source_of_outline(
         ..
     } = outline;
     drop(owners);
-    leaves_plain_source(alloc, limits, definitions, blocks)
+    let mut walk = LeafWalk::new(alloc, limits, definitions, blocks);
+    walk.plain_source(limits.rules())
 }

@@ -1,6 +1,6 @@
 -- What a parser stands for, as more bytes come.
 use Rattle.std.proofs.Common.{◌≡◌, ℕ, ◌+◌, Bool, true, false, List, [], ◌∷◌, ◌++◌, length, drop, map, refl, sym, ap, ap₂, subst, ◌∙◌, append_assoc, length-append, Some, None}
-use Rattle.std.specs.Prelude.{Option, Result, Ok, Err, IfOk, IfErr}
+use Rattle.std.specs.Prelude.{Option, Result, Ok, Err, IfOk, IfErr, OnOk}
 use Rattle.cm_text.specs.Answers.{answer_after}
 use Rattle.std.specs.Option.{option_map, option_or}
 use Rattle.cm_text.specs.declared.fault.TextFault.{TextFault}
@@ -27,15 +27,18 @@ use Rattle.cm_block.proofs.lemmas.Depths.{too_deep_stays}
 use Rattle.cm_tool.specs.declared.fault.Fault.{Fault}
 use Rattle.cm_tool.specs.declared.fault.Fault.TheVariants.{BlocksTooDeep, InlinesTooDeep}
 use Rattle.cm_tool.specs.ToldFaults.{told, refused}
-use Rattle.cm_tool.specs.Leaves.{first_leaf_past}
+use Rattle.cm_tool.specs.Leaves.{first_leaf_past, leaf_depths}
 use Rattle.cm_scan.specs.Documents.{with_inlines}
 use Rattle.cm_tool.specs.Document.{doc_of}
 use Rattle.cm_scan.specs.Documents.{tree_of}
 use Rattle.cm_tool.specs.Faults.{fault_of, settled_fault_of}
 use Rattle.cm_tool.specs.Parsing.{Goes, TellsFault, Makes}
+use Rattle.cm_tool.specs.declared.outlines.leaf_walk.LeafWalk.{LeafWalk}
+use Rattle.cm_tool.specs.steps.LeafWalks.{all_left, HasReadAll, TellsOf}
 use Rattle.cm_tool.specs.steps.ReadingSteps.{IsOutline}
 use Rattle.cm_tool.proofs.lemmas.EndedLemmas.{all_are_lines, ended_are_lines, ended_stay}
 use Rattle.cm_tool.specs.steps.FaultOrder.{leaf_deep, of_four, of_two}
+use Rattle.cm_tool.proofs.lemmas.LeafWalkLemmas.{walk_told, walk_within}
 use Rattle.cm_tool.proofs.lemmas.OrderLemmas.{faults_in_order}
 
 -- an answer without a fault, and with one
@@ -255,3 +258,10 @@ module _ (limits : LimitsView) where
         → IfErr r (λ fault. TellsFault fault (option_map InlinesTooDeep (first_leaf_past limits.inlines read))) → Makes (Made (tree_of limits.rules bytes)) r limits bytes
     tree_made Made (Ok made) done within told = (whole within, subst (λ t. Made t made) tree_read done)
     tree_made Made (Err fault) done within told = leaf_told fault told
+
+    -- and by a walk over its blocks
+    pub walk_made : {A : Type 0} (Made : List Block → A → Type 0) (walk now : LeafWalk) → walk.next ≡ 1 → walk.unread.limits ≡ limits → all_left walk.unread ≡ read → (r : Result A Fault)
+        → IfOk r (Made (all_left walk.unread)) → OnOk r (HasReadAll walk now) → IfErr r (λ fault. TellsOf walk fault (leaf_depths (all_left walk.unread)))
+        → Makes (Made (tree_of limits.rules bytes)) r limits bytes
+    walk_made Made walk now first same all r done passes told =
+        tree_made Made r (subst (λ blocks. IfOk r (Made blocks)) all done) (walk_within walk limits read first same all r now passes) (walk_told walk limits read first same all r told)

@@ -2,16 +2,13 @@
 //!
 //! No tree is made: a leaf's text is copied from its source to the page. The layout of blocks in an item
 //! is in code twice, here and in `cm_html` for trees, and once in the definition.
-ghost use Rattle.std.specs.Prelude.{◌≡◌, List, ◌∷◌, ◌++◌, length, map, option_map, true, IfOk, IfErr, OnOk};
-ghost use Rattle.std.specs.Prelude.{None};
-ghost use Rattle.cm_tree.specs.RawBlocks.{IsItem, IsPlaced, IsRange, item_in};
+ghost use Rattle.std.specs.Prelude.{◌≡◌, List, ◌∷◌, ◌++◌, length, map, true, IfOk, IfErr, OnOk};
+ghost use Rattle.cm_tree.specs.RawBlocks.{IsItem, IsPlaced, IsRange};
 ghost use Rattle.cm_html.specs.Html.{html_of, item_html, items_html, Written, written, alone};
 ghost use Rattle.cm_html.specs.steps.ItemPass.{inside_from, line_feed};
-ghost use Rattle.cm_tool.specs.declared.fault.Fault.TheVariants as faults;
-ghost use Rattle.cm_tool.specs.steps.LeafWalks.{defined_in, with_inlines, depths_in, leaf_depths};
-ghost use Rattle.cm_tool.specs.steps.LeafWalks.{items_leaf_depths, first_leaf_past, block_read_of};
+ghost use Rattle.cm_tool.specs.steps.LeafWalks.{depths_in, leaf_depths, items_leaf_depths, block_read_of};
 ghost use Rattle.cm_tool.specs.steps.LeafWalks.{blocks_read_at, items_read_at, all_left, ArePlacedLeft};
-ghost use Rattle.cm_tool.specs.steps.LeafWalks.{HasRead, HasReadAll, TellsOf, TellsFault};
+ghost use Rattle.cm_tool.specs.steps.LeafWalks.{HasRead, HasReadAll, TellsOf};
 
 use crate::fault::Fault;
 use crate::outlines::leaf_walk::LeafWalk;
@@ -19,9 +16,7 @@ use cm_html::{
     Element, Pages, push_break, push_code, push_heading_end, push_heading_start, push_list_end,
     push_list_start,
 };
-use cm_text::Limits;
-use cm_tree::{Definitions, RawBlock, RawItem, RawTree};
-use std::alloc::Global;
+use cm_tree::{RawBlock, RawItem};
 
 impl LeafWalk {
     /// Adds the HTML of a block outside of items.
@@ -215,7 +210,7 @@ impl LeafWalk {
     }
 
     /// The HTML of all blocks that are left. The first page has room for this number of bytes.
-    fn html(&mut self, room: usize) -> Result<Pages, Fault>
+    pub(crate) fn html(&mut self, room: usize) -> Result<Pages, Fault>
         requires { ArePlacedLeft self.old.unread }
         ensures html { IfOk result (λ pages. pages ≡ html_of (all_left self.old.unread)) }
         ensures passes { OnOk result (HasReadAll self.old self.new) }
@@ -226,29 +221,4 @@ impl LeafWalk {
         self.push_html(&mut html)?;
         Ok(html)
     }
-}
-
-/// The HTML of the blocks with the inlines of their leaves, in pages. The first page has room for this number
-/// of bytes. The inlines of a leaf are freed before those of the next one are read, and so is each chunk of
-/// the document.
-///
-/// # Errors
-///
-/// As `read_leaves`.
-pub(crate) fn leaves_html(
-    alloc: Global,
-    limits: Limits,
-    definitions: Definitions,
-    blocks: RawTree,
-    room: usize,
-) -> Result<Pages, Fault>
-    ensures html { IfOk result (λ pages. pages ≡
-        html_of (with_inlines limits.rules (defined_in definitions) blocks)) }
-    ensures within { IfOk result (λ _.
-        first_leaf_past limits.inlines (with_inlines limits.rules (defined_in definitions) blocks) ≡ None) }
-    ensures told { IfErr result (λ fault. TellsFault fault (option_map faults.InlinesTooDeep
-        (first_leaf_past limits.inlines (with_inlines limits.rules (defined_in definitions) blocks)))) }
-{
-    let mut walk = LeafWalk::new(alloc, limits, definitions, blocks);
-    walk.html(room)
 }

@@ -1,17 +1,12 @@
 //! The listing of an outline's tree, which is never held whole: each block is freed once it is listed.
-ghost use Rattle.std.specs.Prelude.{◌≡◌, ◌++◌, List, None, IfOk, IfErr, OnOk, option_map};
+ghost use Rattle.std.specs.Prelude.{◌≡◌, ◌++◌, IfOk, IfErr, OnOk};
 ghost use Rattle.cm_html.specs.Listing.{listed_blocks, listing_of};
-ghost use Rattle.cm_tool.specs.declared.fault.Fault.TheVariants as faults;
-ghost use Rattle.cm_tool.specs.steps.LeafWalks.{defined_in, with_inlines, leaf_depths, first_leaf_past};
-ghost use Rattle.cm_tool.specs.steps.LeafWalks.{all_left, ArePlacedLeft, HasReadAll, TellsOf, TellsFault};
+ghost use Rattle.cm_tool.specs.steps.LeafWalks.{all_left, leaf_depths, ArePlacedLeft, HasReadAll, TellsOf};
 
 use crate::fault::Fault;
 use crate::outlines::leaf_walk::LeafWalk;
 use cm_block::LineOwners;
 use cm_html::{Pages, push_listed_block, push_listed_owners};
-use cm_text::Limits;
-use cm_tree::{Definitions, RawTree};
-use std::alloc::Global;
 
 impl LeafWalk {
     /// Adds the listing of all blocks that are left.
@@ -31,7 +26,7 @@ impl LeafWalk {
     }
 
     /// The listing of all blocks that are left, and of the owners of the lines.
-    fn listing(&mut self, owners: &LineOwners) -> Result<Pages, Fault>
+    pub(crate) fn listing(&mut self, owners: &LineOwners) -> Result<Pages, Fault>
         requires { ArePlacedLeft self.old.unread }
         ensures listing { IfOk result (λ pages. pages ≡
             listing_of (all_left self.old.unread) owners.now) }
@@ -46,28 +41,4 @@ impl LeafWalk {
         push_listed_owners(&mut listing, owners.as_slice())?;
         Ok(listing)
     }
-}
-
-/// The listing of the blocks with the inlines of their leaves, and of the owners of the lines, in pages. The
-/// inlines of one block are freed before those of the next one are read.
-///
-/// # Errors
-///
-/// As `read_leaves`.
-pub(crate) fn leaves_listing(
-    alloc: Global,
-    limits: Limits,
-    definitions: Definitions,
-    blocks: RawTree,
-    owners: LineOwners,
-) -> Result<Pages, Fault>
-    ensures listing { IfOk result (λ pages. pages ≡
-        listing_of (with_inlines limits.rules (defined_in definitions) blocks) owners) }
-    ensures within { IfOk result (λ _.
-        first_leaf_past limits.inlines (with_inlines limits.rules (defined_in definitions) blocks) ≡ None) }
-    ensures told { IfErr result (λ fault. TellsFault fault (option_map faults.InlinesTooDeep
-        (first_leaf_past limits.inlines (with_inlines limits.rules (defined_in definitions) blocks)))) }
-{
-    let mut walk = LeafWalk::new(alloc, limits, definitions, blocks);
-    walk.listing(&owners)
 }

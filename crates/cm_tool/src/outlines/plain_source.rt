@@ -6,21 +6,19 @@
 //!
 //! Blocks are judged and spelled from inlines. Working from nodes would save making the inlines, but would
 //! need the refusals and the spelling a second time.
-ghost use Rattle.std.specs.Prelude.{◌≡◌, List, [], ◌∷◌, ◌++◌, IfOk, IfErr, OnOk, None, option_map};
+ghost use Rattle.std.specs.Prelude.{List, [], ◌∷◌, ◌++◌, IfOk, IfErr, OnOk};
 ghost use Rattle.cm_text.specs.Rules as text_rules;
 ghost use Rattle.cm_tree.specs.declared.tree.Block as trees;
 ghost use Rattle.cm_source.specs.Definitions.{without_definitions};
-ghost use Rattle.cm_tool.specs.declared.fault.Fault.TheVariants as faults;
 ghost use Rattle.cm_tool.specs.steps.PlainSources.{HasTaken, Spelled};
-ghost use Rattle.cm_tool.specs.steps.LeafWalks.{defined_in, with_inlines, leaf_depths, first_leaf_past};
-ghost use Rattle.cm_tool.specs.steps.LeafWalks.{all_left, ArePlacedLeft, HasReadAll, TellsOf, TellsFault};
+ghost use Rattle.cm_tool.specs.steps.LeafWalks.{all_left, leaf_depths, ArePlacedLeft, HasReadAll, TellsOf};
 
 use crate::fault::Fault;
 use crate::outlines::leaf_walk::LeafWalk;
 use cm_inline::InlineReader;
 use cm_source::{SourceFault, Speller, Why, block_without_definitions};
-use cm_text::{Limits, NoMemory, Rules};
-use cm_tree::{Block, Definitions, RawTree};
+use cm_text::{NoMemory, Rules};
+use cm_tree::Block;
 use std::alloc::Global;
 
 /// The source of the blocks so far, or why they can't be spelled.
@@ -109,7 +107,7 @@ impl LeafWalk {
     }
 
     /// The source of all blocks that are left without their definitions, or why they can't be spelled.
-    fn plain_source(&mut self, rules: Rules) -> Result<Result<String, Why>, Fault>
+    pub(crate) fn plain_source(&mut self, rules: Rules) -> Result<Result<String, Why>, Fault>
         requires { ArePlacedLeft self.old.unread }
         ensures source { IfOk result (λ source.
             Spelled rules (without_definitions (all_left self.old.unread)) source) }
@@ -121,28 +119,4 @@ impl LeafWalk {
         self.push_plain_source(&mut source)?;
         Ok(source.finish()?)
     }
-}
-
-/// The source of the blocks with the inlines of their leaves and without their definitions, or why they can't
-/// be spelled. The inlines of one block are freed before those of the next one are read. All leaves are read,
-/// also after a block that can't be spelled, because a leaf that is too deep takes precedence.
-///
-/// # Errors
-///
-/// As `read_leaves`.
-pub(crate) fn leaves_plain_source(
-    alloc: Global,
-    limits: Limits,
-    definitions: Definitions,
-    blocks: RawTree,
-) -> Result<Result<String, Why>, Fault>
-    ensures source { IfOk result (λ source. Spelled limits.rules
-        (without_definitions (with_inlines limits.rules (defined_in definitions) blocks)) source) }
-    ensures within { IfOk result (λ _.
-        first_leaf_past limits.inlines (with_inlines limits.rules (defined_in definitions) blocks) ≡ None) }
-    ensures told { IfErr result (λ fault. TellsFault fault (option_map faults.InlinesTooDeep
-        (first_leaf_past limits.inlines (with_inlines limits.rules (defined_in definitions) blocks)))) }
-{
-    let mut walk = LeafWalk::new(alloc, limits, definitions, blocks);
-    walk.plain_source(limits.rules())
 }
