@@ -1,19 +1,13 @@
 //! How a leaf block that closes is added to its level.
-ghost use Rattle.std.specs.Prelude.{◌≡◌, ◌≢◌, ◌+◌, ◌<◌, ◌≤◌, ◌^◌, [], suc, length, drop, false, None};
-ghost use Rattle.std.specs.Prelude.{IfOk, OnOk};
+ghost use Rattle.std.specs.Prelude.{◌≡◌, ◌+◌, ◌<◌, ◌≤◌, ◌^◌, [], suc, length, drop, false, None, IfOk, OnOk};
 ghost use Rattle.cm_block.specs.Prelude.{trim_end, definitions_of, link_definition, leaf_block, definition};
 ghost use Rattle.cm_block.specs.Prelude.{code, html};
 ghost use Rattle.cm_block.specs.Prelude.{line_feeds, line_count, definition_leaves, content_leaf};
-ghost use Rattle.cm_tree.specs.declared.tree.Block.TheVariants as trees;
-ghost use Rattle.cm_block.specs.Level as levels;
 ghost use Rattle.cm_block.specs.Level.{block_closes};
 ghost use Rattle.cm_block.specs.OpenLeaf.{run_leaves};
-ghost use Rattle.cm_block.specs.Stack as stacks;
 ghost use Rattle.cm_block.specs.Stack.{close_leaves, own_leaf, own_leaves};
 ghost use Rattle.cm_block.specs.LeafViews.{ended};
-ghost use Rattle.cm_block.specs.steps.LeafBlocks.{block_of};
 ghost use Rattle.cm_block.specs.steps.LeafSteps.{underline_level, fence_lines, own_plain_leaf};
-ghost use Rattle.cm_block.specs.steps.LeafSteps.{own_definition};
 
 use crate::leaf_block::LeafBlock;
 use crate::leaf_text::LeafText;
@@ -32,26 +26,6 @@ fn count_lines(feeds: usize, more: usize) -> Result<usize, RawFault>
 {
     // Memory holds fewer lines than a `usize` counts.
     feeds.checked_add(more).ok_or(RawFault::TooLarge)
-}
-
-/// Adds a definition whose texts are resolved.
-fn put_resolved(
-    label: &str,
-    dest: &str,
-    title: &str,
-    lines: usize,
-    stack: &mut Stack,
-    owners: &mut Owners,
-) -> Result<(), RawFault>
-    ensures level { OnOk result (stack.new.level
-        ≡ block_closes stack.old.level (trees.Definition label.now dest.now title.now)) }
-    ensures frames { stack.new.frames ≡ stack.old.frames }
-    ensures bare { stack.new.bare ≡ stack.old.bare }
-    ensures owners { OnOk result (owners.new
-        ≡ own_definition owners.old label.now (dest.now, title.now) lines) }
-{
-    owners.definition(label, dest, title, lines)?;
-    stack.put(&LeafBlock::Definition { label, dest, title })
 }
 
 /// Adds a definition. Its destination and title are resolved, and its label is its source (4.7).
@@ -73,7 +47,13 @@ fn put_definition(
 {
     let dest = unescape_or_lend(alloc, found.dest)?;
     let title = unescape_or_lend(alloc, found.title)?;
-    put_resolved(found.label, &dest, &title, lines, stack, owners)
+    owners.definition(found.label, &dest, &title, lines)?;
+    stack.put(&LeafBlock::Definition {
+        label: found.label,
+        dest: &dest,
+        title: &title,
+    })?;
+    Ok(())
 }
 
 /// The number of lines of a definition that takes the first `end` bytes of a text with `feeds` line feeds.
@@ -121,22 +101,7 @@ fn put_definitions<'a>(
     Ok((rest, left))
 }
 
-/// The leaf that the rest of a run is: a paragraph, or with an underline a heading. Returns also how many
-/// lines it has besides those that its line feeds end.
-fn content_leaf<'a>(source: &'a str, ending: Ending) -> (LeafBlock<'a>, usize)
-    requires { source.now ≢ [] }
-    ensures level { (level : levels.Level) → block_closes level (block_of result.0)
-        ≡ close_leaves level (content_leaf (underline_level ending) source.now) }
-    ensures owners { (owned : stacks.Owned) → own_plain_leaf owned (line_feeds source.now + result.1)
-        ≡ own_leaves owned (content_leaf (underline_level ending) source.now) }
-{
-    match ending {
-        Ending::Underline(level) => (LeafBlock::Heading { level, source }, 2),
-        Ending::Plain | Ending::ClosingFence => (LeafBlock::Paragraph { source }, 1),
-    }
-}
-
-/// Adds the rest of a run, which has `feeds` line feeds.
+/// Adds the rest of a run, which has `feeds` line feeds: a paragraph, or with an underline a heading.
 fn put_content(
     source: &str,
     feeds: usize,
@@ -155,9 +120,16 @@ fn put_content(
     if source.is_empty() {
         return Ok(());
     }
-    let (leaf, more) = content_leaf(source, ending);
-    owners.leaf(count_lines(feeds, more)?)?;
-    stack.put(&leaf)
+    match ending {
+        Ending::Underline(level) => {
+            owners.leaf(count_lines(feeds, 2)?)?;
+            stack.put(&LeafBlock::Heading { level, source })
+        }
+        Ending::Plain | Ending::ClosingFence => {
+            owners.leaf(count_lines(feeds, 1)?)?;
+            stack.put(&LeafBlock::Paragraph { source })
+        }
+    }
 }
 
 /// Whether a text may start with a definition. Mostly its first byte shows that it doesn't.
