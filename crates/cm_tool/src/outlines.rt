@@ -20,6 +20,7 @@ use cm_json::JsonText;
 use cm_source::Why;
 use cm_text::Limits;
 use cm_tree::Doc;
+use document::read_leaves;
 use leaf_walk::LeafWalk;
 use std::alloc::Global;
 
@@ -38,7 +39,7 @@ pub(crate) fn doc_of_outline(alloc: Global, limits: Limits, outline: Outline) ->
         definitions,
         ..
     } = outline;
-    let blocks = LeafWalk::new(alloc, limits, definitions, blocks).all_blocks()?;
+    let blocks = read_leaves(alloc, limits, definitions, blocks)?;
     let owners = owners.to_items(alloc)?;
     Ok(Doc { blocks, owners })
 }

@@ -14,7 +14,8 @@ pub use Rattle.cm_scan.specs.Documents.{with_inlines}
 use Rattle.cm_tool.specs.declared.fault.Fault.{Fault}
 use Rattle.cm_tool.specs.declared.outlines.leaf_walk.Unread.{Unread}
 use Rattle.cm_tool.specs.declared.outlines.leaf_walk.LeafWalk.{LeafWalk}
-pub use Rattle.cm_tool.specs.Leaves.{depths_in, leaf_depths}
+pub use Rattle.cm_tool.specs.Leaves.{depths_in, leaf_depths, first_leaf_past}
+pub use Rattle.cm_tool.specs.Parsing.{TellsFault}
 use Rattle.cm_tool.specs.steps.Items.{items_read}
 pub use Rattle.cm_tool.specs.steps.Items.{items_leaf_depths}
 use Rattle.cm_tool.specs.steps.Numbering.{Left, Passes}
