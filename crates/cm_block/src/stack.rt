@@ -31,7 +31,7 @@ use crate::leaf_block::LeafBlock;
 use crate::level::Level;
 use crate::room::Room;
 use cm_text::Rules;
-use cm_tree::{ListKind, RawBlock, RawBlocks, RawChunk, RawFault, RawTree};
+use cm_tree::{ListKind, RawBlocks, RawChunk, RawFault, RawTree};
 use std::alloc::{AllocError, Global};
 use std::marker::Model;
 use std::mem;

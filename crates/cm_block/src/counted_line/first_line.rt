@@ -4,7 +4,7 @@ ghost use Rattle.cm_block.specs.Prelude.{seen_view, given, kind_of, leaf_block};
 ghost use Rattle.cm_text.specs.Rules as all;
 ghost use Rattle.cm_block.specs.declared.counted_line.starts.Start.TheVariants.{Fence};
 ghost use Rattle.cm_scan.specs.blocks.Starts as starts;
-ghost use Rattle.cm_block.specs.OpenLeaf.{no_leaf, stays_open, begins_leaf, begin_of_start};
+ghost use Rattle.cm_block.specs.OpenLeaf.{no_leaf, begin_of_start};
 ghost use Rattle.cm_block.specs.Stack.{close_leaves, own_leaves};
 ghost use Rattle.cm_block.specs.LeafViews.{leaf_of};
 ghost use Rattle.cm_block.specs.steps.StartViews.{seen};
@@ -25,7 +25,7 @@ use crate::stack::Stack;
 use cm_scan::{HtmlKind, OpeningFence};
 use cm_text::{NoMemory, Rules, View};
 use cm_tree::RawFault;
-use std::alloc::{AllocError, Global};
+use std::alloc::Global;
 
 /// The leaf block that a line is by itself: a heading (4.2 ATX headings) or a thematic break (4.1 Thematic
 /// breaks).

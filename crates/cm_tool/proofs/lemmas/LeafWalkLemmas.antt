@@ -208,7 +208,7 @@ module _ (first now : LeafWalk) (so_far : HasReadSome first now) where
       subst (λ leaf. TellsFault fault (option_map InlinesTooDeep leaf)) (sym (so_far.leaves more))
       (subst (λ limits. TellsLeaf fault limits.inlines now.next (leaf_depths (all_left now.unread))) so_far.limits told more)
 
--- what is read isn't seen in the reader's memory
+-- with another reader, which nothing of that mentions
 pub with_reader : {first now : LeafWalk} (reader : InlineReader) → HasReadSome first now → HasReadSome first (record now { reader = reader })
 with_reader reader has = record { limits = has.limits; placed = has.placed; leaves = has.leaves }
 
