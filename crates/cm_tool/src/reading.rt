@@ -1,6 +1,6 @@
 //! Reading: from bytes to the outline of their document. The bytes come from a source, which is read to its
 //! end, in pieces, or from memory.
-ghost use Rattle.std.specs.Prelude.{◌≡◌, ℕ, ◌-◌, ◌^◌, ◌<◌, List, IfOk, length};
+ghost use Rattle.std.specs.Prelude.{ℕ, ◌-◌, ◌^◌, ◌<◌, List};
 ghost use Rattle.std.specs.Io.KnownBytes.{Consumes};
 ghost use Rattle.cm_tool.specs.Reading.{Reads};
 ghost use Rattle.cm_tool.specs.steps.ReadingSteps.{ReadsOutline};
@@ -17,16 +17,9 @@ use cm_text::{Limits, Source};
 use cm_tree::Doc;
 pub use in_memory::{doc_of, html_of, source_of};
 pub use parser::Parser;
-use parser::SLICE;
-use std::alloc::{AllocError, Global};
+use std::alloc::Global;
 use taking_in::take_all;
 pub use texts::read_text;
-
-pub(crate) fn zeros(alloc: Global, count: usize) -> Result<Vec<u8>, AllocError>
-    ensures { IfOk result (λ zeros. length zeros.items ≡ count) }
-{
-    vec![in alloc; 0; count]
-}
 
 /// Reads a source to its end and returns the outline of its document.
 pub(crate) fn outline_of<R: Source>(
@@ -38,9 +31,8 @@ pub(crate) fn outline_of<R: Source>(
     ensures { (bytes : List ℕ) × Consumes (R.seen source.old).remaining (R.seen source.new).remaining bytes
         × ReadsOutline result limits bytes (R.seen source.old) (R.seen source.new) }
 {
-    let mut buffer = zeros(alloc, SLICE)?;
     let mut parser = Parser::new(alloc, limits);
-    take_all(source, &mut parser, buffer.as_mut_slice())?;
+    take_all(alloc, source, &mut parser)?;
     parser.outline()
 }
 

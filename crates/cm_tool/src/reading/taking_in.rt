@@ -1,5 +1,5 @@
 //! Reads a source to its end, and passes its bytes on in pieces.
-ghost use Rattle.std.specs.Prelude.{◌≡◌, ℕ, ◌+◌, ◌-◌, ◌^◌, ◌<◌, List, [], ◌++◌, Option, None, length, OnOk};
+ghost use Rattle.std.specs.Prelude.{◌≡◌, ℕ, ◌+◌, ◌-◌, ◌^◌, ◌<◌, List, [], ◌++◌, Option, None, length, IfOk, OnOk};
 ghost use Rattle.std.specs.Io.KnownBytes.{Consumes};
 ghost use Rattle.cm_text.specs.Limits.{LimitsView};
 ghost use Rattle.cm_tool.specs.declared.fault.Fault as faults;
@@ -7,7 +7,9 @@ ghost use Rattle.cm_tool.specs.Parsing.{Answers};
 ghost use Rattle.cm_tool.specs.steps.ReadingSteps.{TakesIn};
 
 use crate::fault::Fault;
+use crate::reading::parser::SLICE;
 use cm_text::Source;
+use std::alloc::{AllocError, Global};
 
 /// What reads bytes, piece by piece.
 pub(crate) trait TakesBytes {
@@ -29,20 +31,27 @@ pub(crate) trait TakesBytes {
         ensures left { OnOk result (left self.new + length piece.now ≡ left self.old) };
 }
 
-/// Passes a source to a taker, in pieces of the buffer's length. A fault that the bytes settle ends the
-/// reading: no read is made after it. So does a failed read.
+fn zeros(alloc: Global, count: usize) -> Result<Vec<u8>, AllocError>
+    ensures { IfOk result (λ zeros. length zeros.items ≡ count) }
+{
+    vec![in alloc; 0; count]
+}
+
+/// Passes a source to a taker, in pieces of at most 8 KiB. A fault that the bytes settle ends the reading: no
+/// read is made after it. So does a failed read.
 pub(crate) fn take_all<R: Source, T: TakesBytes>(
+    alloc: Global,
     source: &mut R,
     taker: &mut T,
-    buffer: &mut [u8],
 ) -> Result<(), Fault>
-    requires failures { (R.seen source.old).failed < 2 ^ 64 - 1 }
-    requires room { 0 < length buffer.old }
+    requires { (R.seen source.old).failed < 2 ^ 64 - 1 }
     ensures { (bytes : List ℕ) × Consumes (R.seen source.old).remaining (R.seen source.new).remaining bytes
         × ((limits : LimitsView) → T.has_taken_in limits taker.old [] → T.settled limits [] ≡ None
         → TakesIn (T.has_taken_in limits taker.new) (T.settled limits) result bytes
         (R.seen source.old) (R.seen source.new)) }
 {
+    let mut buffer = zeros(alloc, SLICE)?;
+    let buffer = buffer.as_mut_slice();
     loop {
         let Ok(n) = source.read(buffer) else {
             return Err(Fault::ReadFailed);

@@ -12,9 +12,7 @@ ghost use Rattle.cm_tool.specs.Reading.{ReadsText, settled_of_text, fault_of_tex
 ghost use Rattle.cm_tool.specs.steps.Texts.{HasGathered};
 
 use crate::fault::Fault;
-use crate::reading::parser::SLICE;
 use crate::reading::taking_in::{TakesBytes, take_all};
-use crate::reading::zeros;
 use cm_text::{Limits, LineBuffer, Source, text_of};
 use std::alloc::Global;
 use std::marker::Model;
@@ -76,11 +74,10 @@ pub fn read_text<R: Source>(alloc: Global, source: &mut R, limits: Limits) -> Re
     ensures { (bytes : List ℕ) × Consumes (R.seen source.old).remaining (R.seen source.new).remaining bytes
         × ReadsText result limits bytes (R.seen source.old) (R.seen source.new) }
 {
-    let mut buffer = zeros(alloc, SLICE)?;
     let mut text = TextBytes {
         feed: LineBuffer::new(alloc, limits),
         bytes: Vec::new(alloc),
     };
-    take_all(source, &mut text, buffer.as_mut_slice())?;
+    take_all(alloc, source, &mut text)?;
     text.text(alloc)
 }

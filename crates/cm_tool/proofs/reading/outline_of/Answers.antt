@@ -9,7 +9,7 @@ pub returns-in_err-take_all : goal.returns-in_err-take_all
 returns-in_err-take_all g c =
     let limits = c.args.limits in
     let taken = c.in_err-take_all.ensures in
-    let p = err_from_is_err_and c.from_residual-in_err-take_all.result c.from_residual-in_err-take_all.ensures.1 in
+    let p = err_from_is_err_and c.from_residual.result c.from_residual.ensures.1 in
     rw (p.1, p.2) (taken.0, taken.1, taken.2 limits c.new-parser.ensures (nothing_settled limits _ _ [] c.new-parser.ensures.goes) (fault_of limits taken.0))
 
 pub returns : goal.returns

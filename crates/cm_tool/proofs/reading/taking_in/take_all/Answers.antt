@@ -23,7 +23,7 @@ returns-in_err-take g c =
     let so_far = c.loop-n.invariant in
     let read = so_far.0 in
     let piece = take c.in-Ok.n c.read.new.buf in
-    let p = err_from_is_err_and c.from_residual.result c.from_residual.ensures.1 in
+    let p = err_from_is_err_and c.from_residual-in_err-take.result c.from_residual-in_err-take.ensures.1 in
     rw (p.1, p.2) (
       read ++ piece,
       more_read _ _ _ read piece so_far.2 c.in-Ok.ensures.bytes.0,
