@@ -93,11 +93,7 @@ pub fn plain_label_number(label: &str) -> Option<u64>
 fn keeps_case(text: &str) -> bool
     ensures { result ≡ list_all is_kept (chars text.now) }
 {
-    let mut kept = true;
-    for c in text.chars() {
-        kept = kept && is_kept(c);
-    }
-    kept
+    text.chars().all(is_kept)
 }
 
 /// Whether case folding keeps a character.

@@ -1,8 +1,8 @@
-use Rattle.std.proofs.Common.{◌≡◌, ◌∙◌, ◌&&◌, ◌||◌, true, not, ap, sym, drop, chars}
+use Rattle.std.proofs.Common.{◌≡◌, ◌∙◌, ◌&&◌, ◌||◌, true, ap, sym, drop, chars}
 use Rattle.std.specs.List.{list_all}
 use Rattle.std.proofs.lemmas.Bool.{not-false}
 use Rattle.std.proofs.lemmas.List.{drop_all}
-use Rattle.cm_text.specs.steps.LabelSteps.{is_plain, is_all_ascii, is_kept}
+use Rattle.cm_text.specs.steps.LabelSteps.{is_all_ascii, is_kept}
 use Rattle.cm_text.proofs.lemmas.PlainLabels.{own_folds, plain_bare, read_out, with_true}
 use Rattle.cm_text.proofs.labels.plain_label_number.Goals as goal
 use Rattle.cm_text.proofs.labels.plain_label_number.Goals.{then-not-ascii, else-not-ascii}
