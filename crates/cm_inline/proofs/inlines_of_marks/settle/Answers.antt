@@ -1,5 +1,6 @@
 use Rattle.cm_inline.proofs.lemmas.Words.{◌<◌, ◌≤◌, length, sym, ap, ◌∙◌, arith}
 use Rattle.std.proofs.lemmas.List.{take_rest}
+use Rattle.std.proofs.lemmas.Grind.{common_steps}
 use Rattle.cm_inline.specs.steps.Building.{built_in}
 use Rattle.cm_inline.proofs.lemmas.SettleLemmas.{built-next, built-last}
 use Rattle.cm_inline.proofs.lemmas.TextWaitLemmas.{mark-among}
@@ -19,3 +20,12 @@ returns c =
     let high : length reader.marks.items ≤ c.loop-mark.mark-index = omega (arith, c.loop-mark-test.false, ap length c.as_slice-mark-items.ensures.value) in
     built-last c.args.source.now c.args.definitions.now reader (built_in c.loop-mark.made) (built_in c.add_text-2.new.self) c.loop-mark.from c.loop-mark.mark-index _ _ high c.loop-mark.invariant (c.range_from.ensures.value ∙ sym (take_rest c.args.source.now c.loop-mark.from)) c.in_ok-add_text-2.ensures
     c.in_ok-end_text.ensures.content
+
+pub part-requires : goal.part-requires
+part-requires c = grind (arith, common_steps)
+
+pub push_mark-requires : goal.push_mark-requires
+push_mark-requires c = grind (arith, common_steps)
+
+pub range_from-requires : goal.range_from-requires
+range_from-requires c = grind (arith, common_steps)

@@ -1,6 +1,7 @@
 use Rattle.std.proofs.Common.{refl, sym, ap, ◌≡◌, ◌<◌, ◌+◌, ◌-◌, ◌∙◌, ◌≢◌, ℕ, drop, get_or, arith}
 use Rattle.cm_text.specs.Indentation.{blank_width, strip_from}
 use Rattle.std.proofs.lemmas.Str.{IsCharBoundary-start}
+use Rattle.std.proofs.lemmas.Grind.{common_steps}
 use Rattle.cm_text.proofs.lemmas.IndentationLemmas.{after_blank, strip-step, room-step}
 use Rattle.cm_text.proofs.columns.take_columns.Goals as goal
 
@@ -47,3 +48,18 @@ loop-b-preserved-then-left-gt0 c =
       boundary = rw (c.loop-b.invariant.counted) next;
       fits = omega (arith, one, room-step column at bytes c.loop-b-test.true, c.loop-b.invariant.fits);
     }
+
+pub overflow_add-column : goal.overflow_add-column
+overflow_add-column c = grind (arith, common_steps)
+
+pub returns-then-left-width-clause-taken : goal.returns-then-left-width-clause-taken
+returns-then-left-width-clause-taken c = grind (arith, common_steps)
+
+pub overflow_add-column-in-loop-b : goal.overflow_add-column-in-loop-b
+overflow_add-column-in-loop-b c = grind (arith, common_steps)
+
+pub returns-after-loop-b-clause-taken : goal.returns-after-loop-b-clause-taken
+returns-after-loop-b-clause-taken c = grind (arith, common_steps)
+
+pub returns-then-left-eq0-clause-taken : goal.returns-then-left-eq0-clause-taken
+returns-then-left-eq0-clause-taken c = grind (arith, common_steps)

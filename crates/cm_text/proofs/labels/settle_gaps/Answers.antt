@@ -1,4 +1,5 @@
-use Rattle.std.proofs.Common.{ap, sym, ◌∙◌, ◌++◌, string_bytes}
+use Rattle.std.proofs.Common.{ap, sym, ◌∙◌, ◌++◌, string_bytes, arith}
+use Rattle.std.proofs.lemmas.Grind.{common_steps}
 use Rattle.cm_text.proofs.lemmas.LabelLemmas.{none_read, gap_read, char_read}
 use Rattle.cm_text.proofs.labels.settle_gaps.Goals as goal
 
@@ -16,3 +17,6 @@ loop-c-preserved c =
     char_read (string_bytes c.loop-c.settled) (string_bytes c.put.new.settled) c.loop-c.after_gap c.in-Some.c c.next.new.self.rest.now c.loop-c.c-iterator.rest.now
     (sym c.is_gap.ensures ∙ c.if-is_gap.false) c.in-Some.ensures.steps.0 c.in_ok-put.ensures
     ∙ c.loop-c.invariant
+
+pub returns : goal.returns
+returns c = grind (arith, common_steps)

@@ -1,4 +1,5 @@
-use Rattle.std.proofs.Common.{◌++◌, ap, sym, ◌∙◌, string_bytes}
+use Rattle.std.proofs.Common.{◌++◌, ap, sym, ◌∙◌, string_bytes, arith}
+use Rattle.std.proofs.lemmas.Grind.{common_steps}
 use Rattle.cm_text.specs.Unescaping.{unescape}
 use Rattle.cm_text.proofs.lemmas.UnescapingLemmas.{run-before, run-whole, round}
 use Rattle.cm_text.proofs.unescaping.unescape.Goals as goal
@@ -19,3 +20,9 @@ returns c =
     c.in_ok-push_str-2.ensures.bytes
     ∙ ap (λ t. string_bytes c.loop-at.unescaped ++ t) (sym (run-whole rest c.as_bytes.result.now c.as_bytes.ensures.value c.in_default.ensures))
     ∙ c.loop-at.invariant.1
+
+pub push_special-requires-clause-ascii : goal.push_special-requires-clause-ascii
+push_special-requires-clause-ascii c = grind (arith, common_steps)
+
+pub range_from-rest-requires : goal.range_from-rest-requires
+range_from-rest-requires c = grind (arith, common_steps)

@@ -1,4 +1,5 @@
-use Rattle.std.proofs.Common.{subst, sym}
+use Rattle.std.proofs.Common.{subst, sym, arith}
+use Rattle.std.proofs.lemmas.Grind.{common_steps}
 use Rattle.cm_block.specs.steps.FrameViews.{AreFramesPlaced}
 use Rattle.cm_block.specs.steps.LevelViews.{IsLevelPlaced}
 use Rattle.cm_block.proofs.lemmas.RowLemmas.{one-more-frame}
@@ -16,3 +17,9 @@ invariant_of-self-2 c = (
       (subst (IsLevelPlaced c.self.inside.raw) (sym c.replace-level.ensures.value) c.self.invariant.1),
   subst (IsLevelPlaced c.self.inside.raw) (sym c.replace-level.ensures.after) (c.new-inside.ensures.placed c.self.inside.raw),
 )
+
+pub returns-clause-frames : goal.returns-clause-frames
+returns-clause-frames c = grind (arith, common_steps)
+
+pub returns-clause-level : goal.returns-clause-level
+returns-clause-level c = grind (arith, common_steps)

@@ -1,4 +1,5 @@
 use Rattle.std.proofs.Common.{◌-◌, ◌++◌, ◌∷◌, [], take, slice_set, vec_len, refl, sym, ap, ◌∙◌, arith}
+use Rattle.std.proofs.lemmas.Grind.{common_steps}
 use Rattle.cm_tree.proofs.lemmas.RawLemmas.{grows-same}
 use Rattle.cm_block.specs.Level.{item_opens}
 use Rattle.cm_block.specs.Frames.{an_item, Row}
@@ -68,3 +69,6 @@ returns-clause-level c = λ _.
     inside-next s.chunks s.raw c.begin_next_item.new.raw s.frames.items (take (n - 1) s.frames.items) (slice_set s.frames.items (n - 1) next) old next taken replaced c.self.invariant.0 done.grows
     (level_in c.begin_next_item.new.raw c.begin_next_item.new.self)
     ∙ done.level
+
+pub invariant_of-self-then-not-is_continued_by : goal.invariant_of-self-then-not-is_continued_by
+invariant_of-self-then-not-is_continued_by c = grind (arith, common_steps)

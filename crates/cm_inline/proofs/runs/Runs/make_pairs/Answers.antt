@@ -1,3 +1,4 @@
+use Rattle.std.proofs.lemmas.Grind.{common_steps}
 use Rattle.cm_inline.proofs.lemmas.Words.{◌≡◌, ◌<◌, length, refl, sym, ap, subst, ◌∙◌, arith, length-map, Run}
 use Rattle.cm_inline.specs.steps.pairing.States.{state_of}
 use Rattle.cm_inline.specs.steps.Runs.{run_of, entry_of, pair_in, runs_in}
@@ -78,3 +79,6 @@ loop-closer-preserved c =
       done = λ parts had comes none. done-pairs parts old (run_of c.args.run) closer had c.loop-closer.self c.make_pair.new.self c.loop-closer.bottoms c.args.number e may
           (c.loop-closer.invariant.going parts had comes (omega (arith, c.loop-closer-test.true))) m.found m.makes (omega (arith, none, w.left));
     }
+
+pub overflow_sub-len : goal.overflow_sub-len
+overflow_sub-len c = grind (arith, common_steps)

@@ -1,3 +1,5 @@
+use Rattle.std.proofs.Common.{arith}
+use Rattle.std.proofs.lemmas.Grind.{common_steps}
 use Rattle.cm_tree.proofs.lemmas.RawLemmas.{grows-more}
 use Rattle.cm_tree.proofs.raw_blocks.RawBlocks.code.Goals as goal
 
@@ -6,3 +8,12 @@ returns-in_err-behind-clause-grows c = grows-more _ _ _ c.in_ok-at.ensures.grows
 
 pub returns-clause-grows : goal.returns-clause-grows
 returns-clause-grows c = grows-more _ _ _ c.in_ok-at.ensures.grows c.in_ok-behind.ensures.grows
+
+pub returns-in_err-behind-clause-large : goal.returns-in_err-behind-clause-large
+returns-in_err-behind-clause-large c = grind (arith, common_steps)
+
+pub returns-clause-block : goal.returns-clause-block
+returns-clause-block c = grind (arith, common_steps)
+
+pub returns-clause-placed : goal.returns-clause-placed
+returns-clause-placed c = grind (arith, common_steps)

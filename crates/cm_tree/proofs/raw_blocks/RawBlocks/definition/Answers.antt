@@ -1,3 +1,5 @@
+use Rattle.std.proofs.Common.{arith}
+use Rattle.std.proofs.lemmas.Grind.{common_steps}
 use Rattle.cm_tree.proofs.lemmas.RawLemmas.{grows-more}
 use Rattle.cm_tree.proofs.raw_blocks.RawBlocks.definition.Goals as goal
 
@@ -9,3 +11,15 @@ returns-in_err-third-clause-grows c = grows-more _ _ _ c.in_ok-first.ensures.gro
 
 pub returns-clause-grows : goal.returns-clause-grows
 returns-clause-grows c = grows-more _ _ _ c.in_ok-first.ensures.grows (grows-more _ _ _ c.in_ok-second.ensures.grows c.in_ok-third.ensures.grows)
+
+pub returns-in_err-second-clause-large : goal.returns-in_err-second-clause-large
+returns-in_err-second-clause-large c = grind (arith, common_steps)
+
+pub returns-in_err-third-clause-large : goal.returns-in_err-third-clause-large
+returns-in_err-third-clause-large c = grind (arith, common_steps)
+
+pub returns-clause-block : goal.returns-clause-block
+returns-clause-block c = grind (arith, common_steps)
+
+pub returns-clause-placed : goal.returns-clause-placed
+returns-clause-placed c = grind (arith, common_steps)
