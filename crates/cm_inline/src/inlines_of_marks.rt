@@ -1,5 +1,7 @@
 //! The inlines of marks, once all pairs and links are made.
 ghost use Rattle.std.specs.Prelude.{◌≡◌, ◌++◌, true, ℕ, codes, encode_utf8, if◌then◌else◌, IfOk, OnOk};
+ghost use Rattle.std.specs.List.{slice_range};
+ghost use Rattle.cm_text.specs.Unescaping.{unescape};
 ghost use Rattle.cm_tree.specs.LinkTargets.{led_to};
 ghost use Rattle.cm_tree.specs.declared.tree.Inline.TheVariants as inlines;
 ghost use Rattle.cm_scan.specs.spans.CodeSpans.{one_line};
@@ -7,7 +9,7 @@ ghost use Rattle.cm_inline.specs.steps.pairing.Events.{add_inline, add_text, bui
 ghost use Rattle.cm_inline.specs.steps.pairing.Events.{made_of};
 ghost use Rattle.cm_inline.specs.steps.Building.{built_in, closed};
 ghost use Rattle.cm_inline.specs.steps.Marks.{events_in, link_tag, target_in, IsSettled, IsTargetIn};
-ghost use Rattle.cm_inline.specs.steps.Standalone.{autolink};
+ghost use Rattle.cm_inline.specs.steps.Standalone.{autolink, IsBetween};
 ghost use Rattle.cm_inline.specs.steps.Writing.{mark_events, IsMarkIn};
 
 use crate::brackets::{Link, Reader};
@@ -32,6 +34,15 @@ fn boxed_target(
     }
 }
 
+/// The source between two places, unescaped, on the heap.
+fn boxed_part(spare: &mut Spare, source: &str, from: u32, to: u32) -> Result<BoxedText, AllocError>
+    requires { IsBetween source.now from to }
+    ensures { IfOk result (λ text. text ≡ unescape (slice_range source.now from to)) }
+{
+    let text = unescaped_part(spare.alloc(), source, from, to)?;
+    spare.boxed(&text)
+}
+
 /// The target of a link, on the heap.
 fn boxed_target_of(
     spare: &mut Spare,
@@ -49,9 +60,9 @@ fn boxed_target_of(
             title,
             title_end,
         } => {
-            let dest = unescaped_part(spare.alloc(), source, dest, dest_end)?;
-            let title = unescaped_part(spare.alloc(), source, title, title_end)?;
-            Ok((spare.boxed(&dest)?, spare.boxed(&title)?))
+            let dest = boxed_part(spare, source, dest, dest_end)?;
+            let title = boxed_part(spare, source, title, title_end)?;
+            Ok((dest, title))
         }
         Target::Defined { entry } => boxed_target(spare, definitions.target_at(entry)),
     }

@@ -29,7 +29,7 @@ const ROOM: usize = 40_960;
 
 /// A block whose inlines haven't been read. Its texts are between places among the texts of [`RawBlocks`],
 /// and the blocks and items in it between places among the blocks and items there.
-#[derive(Clone, Copy, Debug, PartialEq, Eq)]
+#[derive(Clone, Copy, Debug)]
 pub enum RawBlock {
     /// A paragraph, and the places of its source.
     Paragraph {
@@ -78,7 +78,7 @@ pub enum RawBlock {
 }
 
 /// A list item, and the places of its blocks.
-#[derive(Clone, Copy, Debug, PartialEq, Eq)]
+#[derive(Clone, Copy, Debug)]
 pub struct RawItem {
     /// The place of the first.
     pub from: u32,
