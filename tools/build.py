@@ -183,6 +183,14 @@ class Kit:
             [made / PROGRAM, "--help"],
         ]
 
+    def check(self, crate, libraries):
+        """Returns the command that checks the crate with one job, over libraries as for `steps`."""
+        rattle, _, *words = self.steps(crate, libraries, 1, pathlib.Path("made"))[0]
+        for flag in ("-o", "--toolchain"):
+            if flag in words:
+                del words[words.index(flag) : words.index(flag) + 2]
+        return [rattle, "check", *(it for it in words if it != "--statements")]
+
 
 class Store:
     """What was built on this machine: a folder for each crate, named after it and its checksum. If verdicts are asked for, a crate without
@@ -412,6 +420,14 @@ class Build:
                 progress.tell(f"{done} of {self.total} crates are proved, now {now}; about {minutes(self.left())} left")
                 time.sleep(0.1)
                 self.keep_ended()
+
+
+def libraries(names, plan, sums, kit, store):
+    """Returns the folders of these libraries in the store, once it has them."""
+    if Build(names, plan, sums, kit, store).total:
+        store.wait("lock", "proves it")
+        Build(names, plan, sums, kit, store).run()
+    return {it: store.place(it, sums[it]) for it in names}
 
 
 def run_rt(target, kit, store):
