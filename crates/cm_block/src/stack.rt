@@ -600,6 +600,7 @@ impl Stack {
 
     /// Finishes a chunk of the document, if its texts are long enough and no container and no list is open.
     /// All blocks stay the same.
+    #[inline(always)]
     fn finish_chunk(&mut self) -> Result<(), AllocError>
         ensures same { OnOk result (self.new ≡ self.old) }
         ensures frames { self.new.frames ≡ self.old.frames }
@@ -608,6 +609,21 @@ impl Stack {
         if !self.raw.is_full() || !self.is_closed() {
             return Ok(());
         }
+        self.start_chunk()
+    }
+
+    /// Starts a new chunk of the document. What the last one doesn't use of its memory is given back first, so
+    /// that the new one can start where that ends.
+    #[cold]
+    fn start_chunk(&mut self) -> Result<(), AllocError>
+        requires frames { self.old.frames ≡ [] }
+        requires list { self.old.level.open_list ≡ None }
+        ensures same { OnOk result (self.new ≡ self.old) }
+        ensures frames { self.new.frames ≡ self.old.frames }
+        ensures bare { self.new.bare ≡ self.old.bare }
+    {
+        self.raw.shrink_to_fit();
+        self.level.blocks.shrink_to_fit();
         let room = RawBlocks::with_room(self.alloc)?;
         let raw = mem::replace(&mut self.raw, room);
         let blocks = mem::replace(&mut self.level.blocks, Vec::new(self.alloc));

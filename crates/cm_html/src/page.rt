@@ -67,6 +67,13 @@ impl Page {
         })
     }
 
+    /// Gives back the memory that the page's own text doesn't use.
+    pub(crate) fn shrink_to_fit(&mut self)
+        ensures { self.new ≡ self.old }
+    {
+        self.text.shrink_to_fit();
+    }
+
     /// Whether the page, with its insertions, takes at least this number of bytes.
     #[inline(always)]
     pub(crate) fn takes_at_least(&self, bytes: usize) -> bool {

@@ -1,6 +1,7 @@
 //! A text in pages, each with its own memory.
 //!
-//! A page is as long as a part of a raw tree, so that the HTML can go into memory that the parts had.
+//! A page is half as long as a chunk of a raw tree, and a full one gives back what it doesn't use. So the HTML
+//! fits into the memory of chunks that were freed.
 ghost use Rattle.std.specs.Prelude.{◌≡◌, ◌+◌, ◌-◌, ◌*◌, ◌^◌, ◌<◌, ◌≤◌, [], ◌++◌};
 ghost use Rattle.std.specs.Prelude.{ℕ, length, flat_map, string_bytes, IfOk, OnOk, IfSome, IsTrue};
 ghost use Rattle.std.specs.List.{concat};
@@ -23,10 +24,13 @@ use std::marker::Model;
 use std::mem;
 
 /// How many bytes fill a page. What is added at once isn't parted, so a page may have more.
-const PAGE: usize = 32_768;
+const PAGE: usize = 16_384;
 
 /// How many bytes a page has room for at first.
-const ROOM: usize = 40_960;
+const ROOM: usize = 20_480;
+
+/// How many bytes with phrases wait to be written together.
+const WAITING: usize = 32_768;
 
 /// The least length of a text that is inserted. An insertion takes memory too, and a shorter text is copied
 /// in less time than it is searched for.
@@ -203,6 +207,7 @@ impl Pages {
     fn lay_aside(&mut self) -> Result<(), AllocError>
         ensures { OnOk result (self.new ≡ self.old) }
     {
+        self.last.shrink_to_fit();
         let page = Page::with_room(self.alloc, ROOM)?;
         self.full.push(mem::replace(&mut self.last, page))?;
         Ok(())
@@ -232,7 +237,7 @@ impl Pages {
         requires failed { (W.seen sink.old).failed < 2 ^ 64 - 1 }
         ensures { WritesText result (flat_map K.written self.now) (W.seen sink.old) (W.seen sink.new) }
     {
-        self.send::<K, W>(sink, 64, PAGE)
+        self.send::<K, W>(sink, 64, WAITING)
     }
 
     /// The same, for phrases of at most `longest` bytes. Up to `room` bytes wait to be written together.

@@ -24,8 +24,9 @@ use thiserror::Error;
 /// How many bytes of texts fill a chunk of a document.
 const FULL: usize = 32_768;
 
-/// How many bytes of texts there is room for at first, where more than a few are to come.
-const ROOM: usize = 40_960;
+/// How many bytes of texts there is room for at first, where more than a few are to come. Few chunks outgrow
+/// it, and a finished one gives back what it doesn't use.
+const ROOM: usize = 57_344;
 
 /// A block whose inlines haven't been read. Its texts are between places among the texts of [`RawBlocks`],
 /// and the blocks and items in it between places among the blocks and items there.
@@ -196,6 +197,15 @@ impl RawBlocks {
             blocks: Vec::new(alloc),
             items: Vec::new(alloc),
         })
+    }
+
+    /// Gives back the memory that the texts, blocks and items don't use.
+    pub fn shrink_to_fit(&mut self)
+        ensures { self.new ≡ self.old }
+    {
+        self.text.shrink_to_fit();
+        self.blocks.shrink_to_fit();
+        self.items.shrink_to_fit();
     }
 
     /// Whether the texts are long enough to fill a chunk of a document: 32 KiB.

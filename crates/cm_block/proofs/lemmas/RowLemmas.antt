@@ -143,6 +143,17 @@ pub none-placed : (raw : Raw) (frames : List code.Frame) (now : code_level.Level
 none-placed raw frames now no_frames no_open empty =
     (subst (AreFramesPlaced raw) (sym no_frames) tt, record { blocks = subst (ArePlaced raw) (sym empty) tt; open_list = subst (IsListPlaced raw) (sym no_open) tt })
 
+-- what is placed stays so where only memory is given back
+pub shrunk-placed : (a b : Raw) (frames : List code.Frame) (level now : code_level.Level) → b ≡ a → now.blocks.items ≡ level.blocks.items → now.open_list ≡ level.open_list
+    → AreFramesPlaced a frames × IsLevelPlaced a level → AreFramesPlaced b frames × IsLevelPlaced b now
+shrunk-placed a b frames level now same same_blocks same_list placed = (
+  subst (λ raw. AreFramesPlaced raw frames) (sym same) placed.0,
+  record {
+    blocks = subst (ArePlaced b) (sym same_blocks) (subst (λ raw. ArePlaced raw level.blocks.items) (sym same) placed.1.blocks);
+    open_list = subst (IsListPlaced b) (sym same_list) (subst (λ raw. IsListPlaced raw level.open_list) (sym same) placed.1.open_list);
+  },
+)
+
 abbrev row : Bool → List Frame → Level → Row
 row bare frames level = record { frames = frames; bare = bare; level = level }
 

@@ -7,18 +7,23 @@ use Rattle.cm_tree.specs.RawBlocks.{blocks_in}
 use Rattle.cm_block.specs.Frames.{Row}
 use Rattle.cm_block.specs.steps.FrameViews.{frames_in}
 use Rattle.cm_block.specs.steps.FrontViews.{frames_behind}
-use Rattle.cm_block.proofs.lemmas.RowLemmas.{no-frames, no-list, none-placed, finished}
-use Rattle.cm_block.proofs.stack.Stack.finish_chunk.Goals as goal
+use Rattle.cm_block.proofs.lemmas.RowLemmas.{no-frames, no-list, none-placed, shrunk-placed, finished}
+use Rattle.cm_block.proofs.stack.Stack.start_chunk.Goals as goal
 
 no-frame : (c : goal.After-push) → c.self.inside.frames.items ≡ []
-no-frame c = no-frames c.self.inside.raw c.self.inside.chunks c.self.inside.frames.items (ap (λ (r : Row). r.frames) c.self.view_is ∙ c.is_closed.ensures.frames c.if-not-is_closed.false)
+no-frame c = no-frames c.self.inside.raw c.self.inside.chunks c.self.inside.frames.items (ap (λ (r : Row). r.frames) c.self.view_is ∙ c.requires.frames)
 
 none-open : (c : goal.After-push) → c.self.inside.level.open_list ≡ None
 none-open c =
-    no-list c.self.inside.raw c.self.inside.chunks c.self.inside.frames.items c.self.inside.level (ap (λ (r : Row). r.level.open_list) c.self.view_is ∙ c.is_closed.ensures.list c.if-not-is_closed.false)
+    no-list c.self.inside.raw c.self.inside.chunks c.self.inside.frames.items c.self.inside.level (ap (λ (r : Row). r.level.open_list) c.self.view_is ∙ c.requires.list)
 
 pub invariant_of-self : goal.invariant_of-self
 invariant_of-self c =
+    shrunk-placed c.self.inside.raw c.shrink_to_fit.new.self c.self.inside.frames.items c.self.inside.level (record c.self.inside.level { blocks = c.shrink_to_fit-2.new.self })
+    c.shrink_to_fit.ensures c.shrink_to_fit-2.ensures.items refl c.self.invariant
+
+pub invariant_of-self-2 : goal.invariant_of-self-2
+invariant_of-self-2 c =
     none-placed c.replace-raw.new.dest c.self.inside.frames.items (record c.self.inside.level { blocks = c.replace-blocks.new.dest }) (no-frame c) (none-open c) (rw c.replace-blocks.ensures.after c.new.ensures.items)
 
 pub returns-clause-same : goal.returns-clause-same
@@ -27,7 +32,8 @@ returns-clause-same c = on_ok_weaker c.push.result (λ h.
     finished inside.raw c.replace-raw.new.dest inside.chunks c.push.new.self inside.frames.items inside.bare inside.level (record c.self.inside.level { blocks = c.replace-blocks.new.dest }) (no-frame c) (none-open c)
     refl refl refl refl
     (rw c.replace-blocks.ensures.after c.new.ensures.items)
-    (h ∙ ap (λ bs. inside.chunks ++ bs) (c.new-2.ensures ∙ ap₂ (λ raw (level : Vec RawBlock Global). blocks_in raw level.items) c.replace-raw.ensures.value c.replace-blocks.ensures.value)) ∙ c.self.view_is) c.push.ensures.ok
+    (h ∙ ap (λ bs. inside.chunks ++ bs) (c.new-2.ensures ∙ ap₂ (λ raw (level : Vec RawBlock Global). blocks_in raw level.items) c.replace-raw.ensures.value c.replace-blocks.ensures.value
+    ∙ ap₂ blocks_in c.shrink_to_fit.ensures c.shrink_to_fit-2.ensures.items)) ∙ c.self.view_is) c.push.ensures.ok
 
 pub returns-clause-frames : goal.returns-clause-frames
 returns-clause-frames c =
