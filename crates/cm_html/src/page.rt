@@ -67,11 +67,12 @@ impl Page {
         })
     }
 
-    /// Gives back the memory that the page's own text doesn't use.
+    /// Gives back the memory that the page's own text and its list of insertions don't use.
     pub(crate) fn shrink_to_fit(&mut self)
         ensures { self.new ≡ self.old }
     {
         self.text.shrink_to_fit();
+        self.insertions.shrink_to_fit();
     }
 
     /// Whether the page, with its insertions, takes at least this number of bytes.

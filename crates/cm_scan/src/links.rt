@@ -17,7 +17,8 @@ ghost use Rattle.cm_scan.specs.steps.LinkSteps.{begins_character, is_barred, fit
 ghost use Rattle.cm_scan.specs.steps.LinkSteps.{is_plain, is_plain_in_run, is_refused};
 
 use crate::gaps::{after_blanks, after_gap, after_line, is_blank_byte, is_blank_next};
-use cm_text::is_ascii_punct;
+use cm_text::{ByteKind, is_ascii_punct, next_of};
+use std::simd::prelude::*;
 
 /// The link label at a place in a text, which is the boundary of a character: what is between its
 /// brackets, as it is written, and the place after the right one (CommonMark 0.31.2, 6.3 Links).
@@ -310,7 +311,7 @@ fn bare_end(text: &[u8], from: usize) -> Option<usize>
     while at < text.len() {
         if is_plain_in_run(text[at]) {
             escaped = false;
-            at += 1;
+            at = run_plain_end(text, at + 1);
             continue;
         }
         if is_bare_end(text[at], opened, escaped) {
@@ -335,6 +336,37 @@ fn is_plain_in_run(b: u8) -> bool
     ensures { result ≡ is_plain_in_run b }
 {
     PLAIN[usize::from(b)] & 2 != 0
+}
+
+/// The other bytes: spaces, control characters, parentheses and backslashes.
+struct MeantInRun;
+
+impl ByteKind for MeantInRun {
+    ghost passes = { λ b. not (is_plain_in_run b) };
+
+    #[inline(always)]
+    fn contains(b: u8) -> bool {
+        !is_plain_in_run(b)
+    }
+
+    #[inline(always)]
+    fn lanes(lanes: u8x16) -> u64 {
+        let parentheses = lanes.simd_eq(u8x16::splat(b'(')) | lanes.simd_eq(u8x16::splat(b')'));
+        let blanks = lanes.simd_lt(u8x16::splat(b'!')) | lanes.simd_eq(u8x16::splat(127));
+        let backslashes = lanes.simd_eq(u8x16::splat(b'\\'));
+        (parentheses | blanks | backslashes).to_bitmask()
+    }
+}
+
+/// The place after the bytes that mean nothing in the run of a destination. Many destinations are long, so
+/// they are searched with lanes.
+#[inline(always)]
+fn run_plain_end(text: &[u8], from: usize) -> usize
+    requires { from ≤ length text.now }
+    ensures within { (from ≤ result) × (result ≤ length text.now) }
+    ensures plain { (k : ℕ) → from ≤ k → k < result → is_plain_in_run (slice_index text.now k) ≡ true }
+{
+    next_of::<MeantInRun>(text, from)
 }
 
 /// A space, an ASCII control character, or a right parenthesis that no left one opened.

@@ -1,5 +1,5 @@
--- A destination that no `<` starts, read one byte at a time.
-use Rattle.std.proofs.Common.{◌≡◌, ℕ, suc, ◌+◌, ◌<◌, ◌≤◌, ◌==◌, ◌&&◌, not, Bool, true, false, if◌then◌else◌, List, [], ◌∷◌, length, drop, get_or, Some, None, refl, sym, ap, ◌∙◌, arith, add-one, drop-cons}
+-- A destination that no `<` starts.
+use Rattle.std.proofs.Common.{◌≡◌, ℕ, zero, suc, ◌+◌, ◌<◌, ◌≤◌, ◌==◌, ◌&&◌, not, Bool, true, false, if◌then◌else◌, List, [], ◌∷◌, length, drop, get_or, Some, None, refl, sym, ap, ◌∙◌, arith, add-one, drop-cons}
 use Rattle.std.specs.List.{slice_range}
 use Rattle.std.proofs.lemmas.List.{append-nil, drop_all}
 use Rattle.std.proofs.lemmas.Bool.Decides.{nat_tests}
@@ -100,9 +100,21 @@ plain-escapes : (b : ℕ) → is_plain_in_run b ≡ true → (b == 92) ≡ false
 plain-escapes b h = grind (arith, nat_tests, h)
 
 -- and is skipped
-pub bare-plain : (opened : ℕ) (escaped : Bool) (text : List ℕ) (from at : ℕ) → from ≤ at → at < length text → is_plain_in_run (get_or text at 0) ≡ true
+bare-plain : (opened : ℕ) (escaped : Bool) (text : List ℕ) (from at : ℕ) → from ≤ at → at < length text → is_plain_in_run (get_or text at 0) ≡ true
     → ahead_from text from (at + 1) (bare_run opened false (drop (at + 1) text)) ≡ ahead_from text from at (bare_run opened escaped (drop at text))
 bare-plain opened escaped text from at low high h =
     let b = get_or text at 0 in
     bare-step opened opened escaped false text from at low high (plain-kept opened escaped b h) (plain-fits opened escaped b h)
     (plain-opened opened escaped b h) (plain-mark escaped b (drop (suc at) text) (plain-escapes b h))
+
+-- and so are several
+pub bare-plains : (n opened : ℕ) (escaped : Bool) (text : List ℕ) (from at end : ℕ) → end ≡ at + suc n → from ≤ at → end ≤ length text
+    → ((k : ℕ) → at ≤ k → k < end → is_plain_in_run (get_or text k 0) ≡ true)
+    → ahead_from text from end (bare_run opened false (drop end text)) ≡ ahead_from text from at (bare_run opened escaped (drop at text))
+bare-plains zero opened escaped text from at end count low high plain =
+    let next : end ≡ at + 1 = omega (arith, count) in
+    ap (λ m. ahead_from text from m (bare_run opened false (drop m text))) next
+    ∙ bare-plain opened escaped text from at low (omega (arith, count, high)) (plain at (omega arith) (omega (arith, count)))
+bare-plains (suc n) opened escaped text from at end count low high plain =
+    bare-plains n opened false text from (at + 1) end (omega (arith, count)) (omega (arith, low)) high (λ k above under. plain k (omega (arith, above)) under)
+    ∙ bare-plain opened escaped text from at low (omega (arith, count, high)) (plain at (omega arith) (omega (arith, count)))

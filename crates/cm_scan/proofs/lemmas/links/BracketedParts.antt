@@ -1,11 +1,11 @@
 -- A part between brackets, read one byte at a time.
-use Rattle.std.proofs.Common.{◌≡◌, ℕ, zero, suc, ◌+◌, ◌-◌, ◌<◌, ◌≤◌, ◌==◌, ◌&&◌, ◌||◌, not, cond, nat_le, nat_lt, Bool, true, false, List, [], ◌∷◌, ◌++◌, length, take, drop, get_or, Option, Some, None, IfSome, refl, sym, ap, ap₂, subst, ◌∙◌, arith, add-one, drop-cons, append_assoc}
+use Rattle.std.proofs.Common.{◌≡◌, ℕ, zero, suc, ◌+◌, ◌-◌, ◌<◌, ◌≤◌, ◌==◌, ◌&&◌, ◌||◌, not, cond, nat_le, nat_lt, Bool, true, false, List, [], ◌∷◌, ◌++◌, length, take, drop, get_or, Option, Some, None, IfSome, refl, sym, ap, ap₂, subst, ◌∙◌, arith, add-one, drop-cons, append_assoc, ⊎_elim}
 use mir.Val.{bool_byte}
 use Rattle.std.specs.List.{slice_range}
 use Rattle.std.proofs.Math.Seq.{take-suc}
 use Rattle.std.proofs.lemmas.List.{append-nil, drop_all, get_or-drop, length-drop}
 use Rattle.std.proofs.lemmas.List.Sums.{sum_by-cons}
-use Rattle.std.proofs.lemmas.Bool.{and_parts, eqb-true, true≢false}
+use Rattle.std.proofs.lemmas.Bool.{and_parts, eqb-true, true≢false, cases_lt}
 use Rattle.std.proofs.lemmas.Bool.Decides.{nat_tests}
 use Rattle.cm_text.specs.Characters.{is_ascii_punct}
 use Rattle.cm_scan.specs.Words.{is_space_or_tab, skip, trim_start, begins_with}
@@ -373,3 +373,11 @@ escapes-at text at h within = rw (drop-cons text (suc at) 0, h) refl
 pub escapes-here : (text : List ℕ) (at : ℕ) → get_or text at 0 ≡ 92 → suc at < length text
     → escapes_next (get_or text at 0) (drop (suc at) text) ≡ is_ascii_punct (get_or text (at + 1) 0)
 escapes-here text at h within = rw (add-one) (escapes-at text at h within)
+
+-- the byte at a place, and those after it
+pub here-and-behind : (test : ℕ → Bool) (text : List ℕ) (at end : ℕ) → test (get_or text at 0) ≡ true → ((k : ℕ) → at + 1 ≤ k → k < end → test (get_or text k 0) ≡ true)
+    → (k : ℕ) → at ≤ k → k < end → test (get_or text k 0) ≡ true
+here-and-behind test text at end here behind k low under = ⊎_elim
+    (λ past. behind k (omega (arith, past)) under)
+    (λ same. let is : at ≡ k = omega (arith, low, same) in subst (λ j. test (get_or text j 0) ≡ true) is here)
+    (cases_lt at k)

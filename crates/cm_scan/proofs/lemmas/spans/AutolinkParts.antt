@@ -3,10 +3,10 @@ use Rattle.std.proofs.Common.{◌≡◌, ℕ, zero, suc, ◌+◌, ◌-◌, ◌<�
 use Rattle.std.specs.List.{slice_range, list_all, position_or_len}
 use Rattle.std.specs.Prelude.{cond}
 use Rattle.std.proofs.Common.{drop-drop, length-drop}
-use Rattle.std.proofs.lemmas.List.Sums.{prefix_len-le-length}
+use Rattle.std.proofs.lemmas.List.Sums.{prefix_len-le-length, fails_before_first}
 use Rattle.cm_text.specs.Search.{next_place}
 use Rattle.std.specs.Str.{IsCharBoundary}
-use Rattle.std.proofs.lemmas.List.{append-nil, drop_all}
+use Rattle.std.proofs.lemmas.List.{append-nil, drop_all, get_or-drop}
 use Rattle.std.proofs.lemmas.Bool.Decides.{nat_tests}
 use Rattle.std.proofs.lemmas.Str.{IsCharBoundary-after_ascii}
 use Rattle.memchr.specs.Find.{IsFirstByte, is_byte}
@@ -320,3 +320,14 @@ module _ (test : ℕ → Bool) (bytes : List ℕ) (from at : ℕ) (low : from �
 
   pub outside-within : (from ≤ at) × (at ≤ length bytes)
   outside-within = (omega (arith, outside-place), omega (arith, e))
+
+  pub outside-passes : (k : ℕ) → from ≤ k → k < at → test (get_or bytes k 0) ≡ true
+  outside-passes k above under =
+      let place : from + (k - from) ≡ k = omega (arith, above) in
+      passes (test (get_or bytes k 0))
+      (ap (λ n. not (test (get_or bytes n 0))) (sym place) ∙ ap (λ b. not (test b)) (sym (get_or-drop from bytes (k - from) 0))
+      ∙ fails_before_first (λ b. not (test b)) (drop from bytes) (k - from) 0 (omega (arith, above, under, outside-place)))
+    where
+      passes : (b : Bool) → not b ≡ false → b ≡ true
+      passes true h = refl
+      passes false h = sym h

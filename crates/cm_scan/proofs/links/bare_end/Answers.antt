@@ -1,5 +1,7 @@
-use Rattle.std.proofs.Common.{◌∙◌, sym, arith, get_or}
-use Rattle.cm_scan.proofs.lemmas.links.BareDestinations.{bare-step, bare-plain, bare-stop, bare-none, bare-some, ends-inside, ends-past, few-more, Ends}
+use Rattle.std.proofs.Common.{◌∙◌, ◌-◌, sym, arith, get_or}
+use Rattle.cm_scan.specs.steps.LinkSteps.{is_plain_in_run}
+use Rattle.cm_scan.proofs.lemmas.links.BracketedParts.{here-and-behind}
+use Rattle.cm_scan.proofs.lemmas.links.BareDestinations.{bare-step, bare-plains, bare-stop, bare-none, bare-some, ends-inside, ends-past, few-more, Ends}
 use Rattle.cm_scan.proofs.links.bare_end.Goals.{Then-opened-gt0, Else-opened-gt0, then-loop-at-test+else-is_plain_in_run+then-is_bare_end, else-loop-at-test}
 use Rattle.cm_scan.proofs.links.bare_end.Goals as goal
 
@@ -35,10 +37,14 @@ returns-clause-read c =
     sym (bare-some c.loop-at.opened c.loop-at.escaped c.args.text.now c.args.from c.loop-at.at ends (omega (arith, c.if-opened-gt0.false))) ∙ c.loop-at.invariant.read
 
 pub loop-at-preserved-then-is_plain_in_run : goal.loop-at-preserved-then-is_plain_in_run
-loop-at-preserved-then-is_plain_in_run c = record {
-  read = bare-plain c.loop-at.opened c.loop-at.escaped c.args.text.now c.args.from c.loop-at.at c.loop-at.invariant.within.0
-      c.loop-at-test.true (sym c.is_plain_in_run.ensures ∙ c.if-is_plain_in_run.true)
-      ∙ c.loop-at.invariant.read;
-  within = (omega (arith, c.loop-at.invariant.within.0), omega (arith, c.loop-at-test.true));
-  few = c.loop-at.invariant.few;
-}
+loop-at-preserved-then-is_plain_in_run c =
+    let end = c.run_plain_end-at.result in
+    let within = c.run_plain_end-at.ensures.within in
+    record {
+      read = bare-plains (end - c.loop-at.at - 1) c.loop-at.opened c.loop-at.escaped c.args.text.now c.args.from c.loop-at.at end (omega (arith, within))
+          c.loop-at.invariant.within.0 within.1
+          (here-and-behind is_plain_in_run c.args.text.now c.loop-at.at end (sym c.is_plain_in_run.ensures ∙ c.if-is_plain_in_run.true) c.run_plain_end-at.ensures.plain)
+          ∙ c.loop-at.invariant.read;
+      within = (omega (arith, c.loop-at.invariant.within.0, within), within.1);
+      few = c.loop-at.invariant.few;
+    }

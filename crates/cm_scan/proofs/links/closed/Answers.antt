@@ -1,7 +1,6 @@
-use Rattle.std.proofs.Common.{◌∙◌, ◌==◌, ◌≡◌, ◌≤◌, ◌<◌, ◌+◌, ◌-◌, ℕ, true, sym, ap, subst, arith, get_or, cond, ⊎_elim}
-use Rattle.std.proofs.lemmas.Bool.{cases_lt}
+use Rattle.std.proofs.Common.{◌∙◌, ◌==◌, ◌-◌, sym, ap, arith, get_or, cond}
 use Rattle.cm_scan.specs.steps.LinkSteps.{is_barred, is_plain}
-use Rattle.cm_scan.proofs.lemmas.links.BracketedParts.{part-none, part-end, part-stop, part-kept, closes-no_blanks, barred-no_spaces, bool_byte-is, part-plain, ended}
+use Rattle.cm_scan.proofs.lemmas.links.BracketedParts.{part-none, part-end, part-stop, part-kept, closes-no_blanks, barred-no_spaces, bool_byte-is, part-plain, ended, here-and-behind}
 use Rattle.cm_scan.proofs.links.closed.Goals as goal
 
 pub returns-then-is_end-clause-read : goal.returns-then-is_end-clause-read
@@ -27,19 +26,10 @@ loop-at-preserved-then-is_plain c =
       read = part-plain c.args.bounds.open c.args.bounds.close c.args.bounds.one_line c.requires.no_blanks.0 c.requires.no_blanks.1 c.requires.marks.0 c.requires.marks.1
           c.args.bounds.blank_lines c.args.text.now c.args.from (end - c.loop-at.at - 1) c.loop-at.left (c.loop-at.left - (end - c.loop-at.at)) c.loop-at.at end c.loop-at.escaped
           (omega (arith, within)) (omega (arith, within, c.if-left-gt0.true)) c.loop-at.invariant.within.0 within.1
-          (passed end (sym c.is_plain.ensures ∙ c.if-is_plain.true) c.plain_end-behind.ensures.plain)
+          (here-and-behind is_plain c.args.text.now c.loop-at.at end (sym c.is_plain.ensures ∙ c.if-is_plain.true) c.plain_end-behind.ensures.plain)
           ∙ c.loop-at.invariant.read;
       within = (omega (arith, c.loop-at.invariant.within.0, within), within.1);
     }
-  where
-    -- the byte there, and those after it
-    passed : (end : ℕ) → is_plain (get_or c.args.text.now c.loop-at.at 0) ≡ true
-        → ((k : ℕ) → c.loop-at.at + 1 ≤ k → k < end → is_plain (get_or c.args.text.now k 0) ≡ true)
-        → (k : ℕ) → c.loop-at.at ≤ k → k < end → is_plain (get_or c.args.text.now k 0) ≡ true
-    passed end here behind k low under = ⊎_elim
-        (λ past. behind k (omega (arith, past)) under)
-        (λ same. let at : c.loop-at.at ≡ k = omega (arith, low, same) in subst (λ j. is_plain (get_or c.args.text.now j 0) ≡ true) at here)
-        (cases_lt c.loop-at.at k)
 
 pub loop-at-preserved : goal.loop-at-preserved
 loop-at-preserved c = record {
