@@ -612,8 +612,8 @@ impl Stack {
         self.start_chunk()
     }
 
-    /// Starts a new chunk of the document. What the last one doesn't use of its memory is given back first, so
-    /// that the new one can start where that ends.
+    /// Starts a new chunk of the document. The last one gives back the memory that it doesn't use first, so that
+    /// the new one can start there.
     #[cold]
     fn start_chunk(&mut self) -> Result<(), AllocError>
         requires frames { self.old.frames ≡ [] }

@@ -1,7 +1,7 @@
 //! A text in pages, each with its own memory.
 //!
-//! A page is half as long as a chunk of a raw tree, and a full one gives back what it doesn't use. So the HTML
-//! fits into the memory of chunks that were freed.
+//! A page is half as long as a chunk of a raw tree, and a full one gives back what it doesn't use. So the
+//! HTML fits into the memory of chunks that were freed.
 ghost use Rattle.std.specs.Prelude.{◌≡◌, ◌+◌, ◌-◌, ◌*◌, ◌^◌, ◌<◌, ◌≤◌, [], ◌++◌};
 ghost use Rattle.std.specs.Prelude.{ℕ, length, flat_map, string_bytes, IfOk, OnOk, IfSome, IsTrue};
 ghost use Rattle.std.specs.List.{concat};
