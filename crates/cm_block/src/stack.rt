@@ -612,8 +612,8 @@ impl Stack {
         self.start_chunk()
     }
 
-    /// Starts a new chunk of the document. The last one gives back the memory that it doesn't use first, so that
-    /// the new one can start there.
+    /// Starts a new chunk of the document. The last one first gives back the memory that it doesn't use, so
+    /// that the new one can start there.
     #[cold]
     fn start_chunk(&mut self) -> Result<(), AllocError>
         requires frames { self.old.frames ≡ [] }
