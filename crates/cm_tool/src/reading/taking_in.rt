@@ -32,14 +32,29 @@ pub(crate) trait TakesBytes {
         ensures left { OnOk result (left self.new + length piece.now ≡ left self.old) };
 }
 
+/// How many bytes are read at once from a source that has filled the first buffer. Short texts do without the
+/// memory of a longer one.
+const LONG_READ: usize = 32_768;
+
 fn zeros(alloc: Global, count: usize) -> Result<Vec<u8>, AllocError>
     ensures { IfOk result (λ zeros. length zeros.items ≡ count) }
 {
     vec![in alloc; 0; count]
 }
 
-/// Passes a source to a taker, in pieces of at most 8 KiB. A fault that the bytes settle ends the reading: no
-/// read is made after it. So does a failed read.
+/// The buffer for the next read, after one of `n` bytes: a longer one, where they have filled the first.
+fn widened(alloc: Global, buffer: Vec<u8>, n: usize) -> Result<Vec<u8>, AllocError>
+    requires { 0 < length buffer.items }
+    ensures { IfOk result (λ buffer. 0 < length buffer.items) }
+{
+    if n == SLICE && buffer.len() == SLICE {
+        return zeros(alloc, LONG_READ);
+    }
+    Ok(buffer)
+}
+
+/// Passes a source to a taker, in pieces of at most 8 KiB until one is full, then of at most 32 KiB. A fault
+/// that the bytes settle ends the reading: no read is made after it. So does a failed read.
 pub(crate) fn take_all<R: Source, T: TakesBytes>(
     alloc: Global,
     source: &mut R,
@@ -52,14 +67,15 @@ pub(crate) fn take_all<R: Source, T: TakesBytes>(
         (R.seen source.old) (R.seen source.new)) }
 {
     let mut buffer = zeros(alloc, SLICE)?;
-    let buffer = buffer.as_mut_slice();
     loop {
-        let Ok(n) = source.read(buffer) else {
+        let room = buffer.as_mut_slice();
+        let Ok(n) = source.read(room) else {
             return Err(Fault::ReadFailed);
         };
         if n == 0 {
             return Ok(());
         }
-        taker.take(&buffer[..n])?;
+        taker.take(&room[..n])?;
+        buffer = widened(alloc, buffer, n)?;
     }
 }
