@@ -93,7 +93,7 @@ def run(words, file, seconds=120, output=subprocess.DEVNULL, pace=ANY_PACE):
 
 
 def run_at_full_pace(words, file, seconds=120):
-    """A run on a processor that was at full pace. Where none is for too long, a message tells, and the last run counts."""
+    """A run on a processor at full pace. If none is for too long, the last run counts, and a message names it."""
     end = time.monotonic() + PATIENCE
     while True:
         used = run(words, file, seconds, pace=full_pace())
