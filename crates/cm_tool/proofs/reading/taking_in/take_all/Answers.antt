@@ -1,4 +1,5 @@
 use Rattle.std.proofs.Common.{[], ◌++◌, ◌∙◌, take, arith, rules}
+use Rattle.std.proofs.lemmas.Grind.{common_steps}
 use Rattle.std.proofs.lemmas.Result.{err_from_is_err_and}
 use Rattle.cm_tool.proofs.lemmas.ReadLemmas.{nothing_read, more_so_far, more_read, last_read, nothing_more, failed_so_far, fault_told}
 use Rattle.cm_tool.proofs.reading.taking_in.take_all.Goals as goal
@@ -52,6 +53,9 @@ returns-then-n-eq0 g c =
           let held = so_far.1 limits stands none in
           (c.in-Ok.ensures.failures ∙ so_far.2.failed, c.in-Ok.ensures.bytes.1 c.if-n-eq0.true (omega arith), held.0, held.1),
     )
+
+pub widened-requires : goal.widened-requires
+widened-requires g c = grind (arith, common_steps)
 
 pub returns-in_err-buffer-2 : goal.returns-in_err-buffer-2
 returns-in_err-buffer-2 g c =
