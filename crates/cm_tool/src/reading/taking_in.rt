@@ -1,5 +1,5 @@
 //! Reads a source to its end, and passes its bytes on in pieces.
-ghost use Rattle.std.specs.Prelude.{◌≡◌, ℕ, ◌+◌, ◌-◌, ◌^◌, ◌<◌, List, [], ◌++◌, Option, None, length};
+ghost use Rattle.std.specs.Prelude.{◌≡◌, ℕ, ◌+◌, ◌-◌, ◌^◌, ◌<◌, ◌≤◌, List, [], ◌++◌, Option, None, length};
 ghost use Rattle.std.specs.Prelude.{IfOk, OnOk};
 ghost use Rattle.std.specs.Io.KnownBytes.{Consumes};
 ghost use Rattle.cm_text.specs.Limits.{LimitsView};
@@ -44,8 +44,7 @@ fn zeros(alloc: Global, count: usize) -> Result<Vec<u8>, AllocError>
 
 /// The buffer for the next read, after one of `n` bytes: a longer one, where they have filled the first.
 fn widened(alloc: Global, buffer: Vec<u8>, n: usize) -> Result<Vec<u8>, AllocError>
-    requires { 0 < length buffer.items }
-    ensures { IfOk result (λ buffer. 0 < length buffer.items) }
+    ensures { IfOk result (λ longer. length buffer.items ≤ length longer.items) }
 {
     if n == SLICE && buffer.len() == SLICE {
         return zeros(alloc, LONG_READ);

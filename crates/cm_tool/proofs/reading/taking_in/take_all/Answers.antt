@@ -17,7 +17,7 @@ loop-n-preserved g c =
           let held = (so_far.1 limits stands none).0 in
           (c.in_ok-take.ensures.stands limits read held, c.in_ok-take.ensures.settled limits read held),
       more_so_far _ _ _ read piece so_far.2 c.in-Ok.ensures.failures c.in-Ok.ensures.bytes.0,
-      search rules,
+      grind (arith, common_steps),
     )
 
 pub returns-in_err-take : goal.returns-in_err-take
@@ -53,9 +53,6 @@ returns-then-n-eq0 g c =
           let held = so_far.1 limits stands none in
           (c.in-Ok.ensures.failures ∙ so_far.2.failed, c.in-Ok.ensures.bytes.1 c.if-n-eq0.true (omega arith), held.0, held.1),
     )
-
-pub widened-requires : goal.widened-requires
-widened-requires g c = grind (arith, common_steps)
 
 pub returns-in_err-buffer-2 : goal.returns-in_err-buffer-2
 returns-in_err-buffer-2 g c =
