@@ -44,6 +44,7 @@ pub mod PlainItems
 pub mod ContinuationLemmas
 pub mod RunLemmas
 pub mod PutLemmas
+pub mod QuoteLemmas
 pub mod LineOwnerLemmas
 pub mod LeafLemmas
 pub mod FeedLemmas

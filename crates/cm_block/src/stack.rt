@@ -24,7 +24,8 @@ ghost use Rattle.cm_block.specs.steps.FrameSteps.{quoted_by, close_container, cl
 ghost use Rattle.cm_block.specs.steps.FrameSteps.{closed_to, is_continued_by};
 ghost use Rattle.cm_block.specs.steps.ContinuationViews.{IsInside, stays};
 ghost use Rattle.cm_block.specs.declared.stack.Stays.TheVariants.{Inside, Lazily, Leaves};
-ghost use Rattle.cm_block.specs.steps.FrameViews.{container_of, frames_in, AreFramesPlaced};
+ghost use Rattle.cm_block.specs.steps.FrameViews.{container_of, frames_in, quotes_of, quotes_in};
+ghost use Rattle.cm_block.specs.steps.FrameViews.{AreFramesPlaced};
 
 use crate::counted_line::{CountedLine, LineInItems};
 use crate::leaf_block::LeafBlock;
@@ -55,6 +56,16 @@ pub(crate) enum Stays {
 }
 
 impl Container {
+    /// How many quotes it is.
+    fn quotes(self) -> usize
+        ensures { result ≡ quotes_of (container_of self) }
+    {
+        match self {
+            Container::Quote => 1,
+            Container::Item { .. } => 0,
+        }
+    }
+
     /// Whether the line stays in the container by itself, and if so enters it. `bare` says of an item that
     /// there is only its marker so far, with nothing on its line.
     fn has_inside(&self, bare: bool, line: &mut CountedLine<'_>) -> bool
@@ -263,18 +274,6 @@ fn matching(
     frames.len()
 }
 
-/// Whether one of the containers is a quote.
-fn has_quote(frames: &[Frame]) -> bool
-    ensures { (raw : Raw) → result ≡ quoted_by false (frames_in raw frames.now) }
-{
-    for frame in frames {
-        if let Container::Quote = frame.container {
-            return true;
-        }
-    }
-    false
-}
-
 /// The open containers from the outside in, and the level of the innermost: without any, the document's.
 ///
 /// `bare` says that the innermost container is an item with only its marker so far.
@@ -284,11 +283,14 @@ pub(crate) struct Stack {
     /// The chunks that are finished.
     chunks: RawTree,
     frames: Vec<Frame>,
+    /// The number of quotes among the containers.
+    quotes: usize,
     bare: bool,
     level: Level,
     raw: RawBlocks,
     /// Memory for the next containers and lists.
     room: Room,
+    ghost counted: { quotes ≡ quotes_in frames.items },
 }
 
 impl Model for Stack {
@@ -324,6 +326,7 @@ impl Stack {
             alloc,
             chunks: RawTree::new(alloc),
             frames: Vec::new(alloc),
+            quotes: 0,
             bare: false,
             level: Level::new(Vec::new(alloc)),
             raw: RawBlocks::new(alloc),
@@ -352,7 +355,7 @@ impl Stack {
     pub(crate) fn is_quoted(&self) -> bool
         ensures { result ≡ quoted_by false self.now.frames }
     {
-        has_quote(self.frames.as_slice())
+        self.quotes > 0
     }
 
     /// Opens a container, and enters it: the innermost level becomes its enclosing one.
@@ -365,6 +368,7 @@ impl Stack {
         let inside = Level::new(self.room.take_blocks(alloc));
         let level = mem::replace(&mut self.level, inside);
         self.frames.push(Frame { level, container })?;
+        self.quotes += container.quotes();
         Ok(())
     }
 
@@ -417,6 +421,7 @@ impl Stack {
         let Some(Frame { level, container }) = self.frames.pop() else {
             return Ok(());
         };
+        self.quotes -= container.quotes();
         let inside = mem::replace(&mut self.level, level);
         let (ends_blank, separated) = (inside.ends_blank, inside.separated);
         let blocks = inside.into_blocks(&mut self.raw, &mut self.room)?;

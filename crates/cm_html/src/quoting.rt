@@ -8,14 +8,20 @@ use crate::search::Quoted;
 use cm_text::{Replaced, push_replaced};
 use std::alloc::AllocError;
 
-/// Writes the indentation of a line inside `depth` nodes. The length limit of a `String` keeps their number
-/// small.
+/// The indentation of a line inside 32 nodes.
+const MARGIN: &str = "                                                                ";
+
+/// Writes the indentation of a line inside `depth` nodes, up to 32 of them at once. The length limit of a
+/// `String` keeps their number small.
 pub(crate) fn push_margin(out: &mut String, depth: usize) -> Result<(), AllocError>
     ensures written { OnOk result (string_bytes out.new ≡ string_bytes out.old ++ margin depth) }
     ensures small { OnOk result (depth < 2 ^ 63) }
 {
-    for _ in 0..depth {
-        out.push_str("  ")?;
+    let mut left = depth;
+    while left > 0 {
+        let nodes = left.min(MARGIN.len() / 2);
+        out.push_str(&MARGIN[..2 * nodes])?;
+        left -= nodes;
     }
     Ok(())
 }

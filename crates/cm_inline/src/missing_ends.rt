@@ -4,7 +4,10 @@
 //! missing. For code spans it is where the last backtick string of each length ends, found in one pass the
 //! first time that one is missing. Open tags need no memory: at most three of them are open at any place,
 //! whatever `<` and quotation marks a text has, so all their scans together take linear time.
-ghost use Rattle.std.specs.Prelude.{◌≡◌, ℕ, ◌≤◌, ◌++◌, true, List, length, drop, IfOk, OnOk, IfSome};
+ghost use Rattle.std.specs.Prelude.{◌≡◌, ℕ, ◌≤◌, ◌++◌, true, List, length, drop, get_or};
+ghost use Rattle.std.specs.Prelude.{Some, IfOk, OnOk, IfSome};
+ghost use Rattle.cm_scan.specs.Words.{is_letter};
+ghost use Rattle.cm_inline.specs.declared.missing_ends.Form.TheVariants.{Declaration};
 ghost use Rattle.cm_inline.specs.steps.Missing.{start_of, end_of, missing_from, AreLast, Knows, NoneFrom};
 
 use cm_scan::{after_run, holds_from};
@@ -42,10 +45,12 @@ impl Form {
     }
 }
 
-/// The form that starts at a place, if it can be one of these.
+/// The form that starts at a place, if one does but for its end. What is refused for another reason is none:
+/// its end would be searched for at each place, and nothing would be remembered.
 pub(crate) fn form_at(rules: Rules, source: &str, at: usize) -> Option<Form>
     requires { at ≤ length source.now }
-    ensures { IfSome result (λ form. (rest : List ℕ) × (drop at source.now ≡ start_of form ++ rest)) }
+    ensures start { IfSome result (λ form. (rest : List ℕ) × (drop at source.now ≡ start_of form ++ rest)) }
+    ensures letter { result ≡ Some Declaration → is_letter (get_or (drop at source.now) 2 0) ≡ true }
 {
     let text = &source.as_bytes()[at..];
     if text.starts_with(b"<?") {
@@ -57,7 +62,10 @@ pub(crate) fn form_at(rules: Rules, source: &str, at: usize) -> Option<Form>
     if text.starts_with(b"<![CDATA[") {
         return Some(Form::CharacterData);
     }
-    text.starts_with(b"<!").then_some(Form::Declaration)
+    if text.starts_with(b"<!") && text.len() > 2 && text[2].is_ascii_alphabetic() {
+        return Some(Form::Declaration);
+    }
+    None
 }
 
 /// From where on a source has no end of each form, as far as that is known, and where the last backtick

@@ -95,14 +95,14 @@ impl Unread {
         self.after_return = after_return;
     }
 
-    /// Searches for lines of text at the start.
+    /// Searches for lines of text at the start. A line that hasn't ended isn't looked at, however long it is.
     #[inline(always)]
     pub(crate) fn look_for_text(&mut self)
         ensures cut { cut_of self.new ≡ cut_of self.old }
         ensures len { string_len self.new.text ≡ string_len self.old.text }
     {
         let rest = self.rest();
-        if may_begin_text(rest.as_bytes()) {
+        if self.line < rest.len() && may_begin_text(rest.as_bytes()) {
             self.text_ahead = text_ahead(rest, self.line);
         } else {
             self.text_ahead.count = 0;

@@ -226,14 +226,6 @@ quoted_true (f ∷ fs) = quoted_true fs ∙ ap (λ b. quoted_by b fs) (go f.cont
     go a_quote = refl
     go (an_item kind column) = refl
 
-pub quoted_at : (quoted : Bool) (from : List Frame) (f : Frame) (rest : List Frame) → from ≡ f ∷ rest → quoted_by quoted from ≡ quoted_by (quoted_in f.container quoted) rest
-unfolding quoted_by
-quoted_at quoted from f rest at = ap (quoted_by quoted) at
-
-pub quoted_end : (from : List Frame) → from ≡ [] → false ≡ quoted_by false from
-unfolding quoted_by
-quoted_end from at = ap (quoted_by false) (sym at)
-
 -- the last container
 
 pub frames_last : (raw : Raw) (frames : List code.Frame) (f : code.Frame) → frames_in raw (frames ++ f ∷ []) ≡ frames_in raw frames ++ frame_in raw f ∷ []

@@ -10,5 +10,5 @@ returns-then-not-raw_html-clause-read c =
 
 pub returns-then-is_missing-clause-read : goal.returns-then-is_missing-clause-read
 returns-then-is_missing-clause-read c =
-    let none = no-raw-html c.args.rules c.args.source.now c.args.ends.now c.in-Some.form c.args.at c.requires.knows (c.is_missing.ensures c.if-is_missing.true) c.in-Some.ensures in
+    let none = no-raw-html c.args.rules c.args.source.now c.args.ends.now c.in-Some.form c.args.at c.requires.knows (c.is_missing.ensures c.if-is_missing.true) c.in-Some.ensures.start in
     sym (ap (whole_of (drop c.args.at c.args.source.now)) none)

@@ -15,7 +15,7 @@ loop-first-init c = record {
     lines = refl;
     counted = refl;
     are_text = refl;
-    first = c.requires;
+    first = c.requires.first;
   };
   first = omega arith;
   spaces = refl;

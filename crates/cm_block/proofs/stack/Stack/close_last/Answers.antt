@@ -11,8 +11,33 @@ use Rattle.cm_block.specs.steps.FrameViews.{container_of, frames_in}
 use Rattle.cm_block.specs.steps.FrontViews.{innermost}
 use Rattle.cm_block.proofs.lemmas.FrontLemmas.{inner-closes, inner-item-closes}
 use Rattle.cm_tree.proofs.lemmas.RawLemmas.{grows-more}
+use Rattle.cm_block.proofs.lemmas.QuoteLemmas.{quotes-left}
 use Rattle.cm_block.proofs.lemmas.RowLemmas.{taken-placed, taken-is, inside-is}
 use Rattle.cm_block.proofs.stack.Stack.close_last.Goals as goal
+
+pub overflow_sub-self : goal.overflow_sub-self
+overflow_sub-self c =
+    (quotes-left c.self.inside.frames.items c.pop.new.self.items c.in-Some.field-0 c.self.inside.quotes c.quotes.result c.in-Some.ensures.items c.self.inside.counted c.quotes.ensures).0
+
+pub invariant_of-self-inside-in-Break-1 : goal.invariant_of-self-inside-in-Break-1
+invariant_of-self-inside-in-Break-1 c =
+    ((quotes-left c.self.inside.frames.items c.pop.new.self.items c.in-Some.field-0 c.self.inside.quotes c.quotes.result c.in-Some.ensures.items c.self.inside.counted c.quotes.ensures).1, tt)
+
+pub invariant_of-self-inside-in-Break-branch-2 : goal.invariant_of-self-inside-in-Break-branch-2
+invariant_of-self-inside-in-Break-branch-2 c =
+    ((quotes-left c.self.inside.frames.items c.pop.new.self.items c.in-Some.field-0 c.self.inside.quotes c.quotes.result c.in-Some.ensures.items c.self.inside.counted c.quotes.ensures).1, tt)
+
+pub invariant_of-self-inside-in-Quote : goal.invariant_of-self-inside-in-Quote
+invariant_of-self-inside-in-Quote c =
+    ((quotes-left c.self.inside.frames.items c.pop.new.self.items c.in-Some.field-0 c.self.inside.quotes c.quotes.result c.in-Some.ensures.items c.self.inside.counted c.quotes.ensures).1, tt)
+
+pub invariant_of-self-inside-in-Break-branch-3 : goal.invariant_of-self-inside-in-Break-branch-3
+invariant_of-self-inside-in-Break-branch-3 c =
+    ((quotes-left c.self.inside.frames.items c.pop.new.self.items c.in-Some.field-0 c.self.inside.quotes c.quotes.result c.in-Some.ensures.items c.self.inside.counted c.quotes.ensures).1, tt)
+
+pub invariant_of-self-inside-in-Item : goal.invariant_of-self-inside-in-Item
+invariant_of-self-inside-in-Item c =
+    ((quotes-left c.self.inside.frames.items c.pop.new.self.items c.in-Some.field-0 c.self.inside.quotes c.quotes.result c.in-Some.ensures.items c.self.inside.counted c.quotes.ensures).1, tt)
 
 pub invariant_of-self-in_err-blocks : goal.invariant_of-self-in_err-blocks
 invariant_of-self-in_err-blocks c =

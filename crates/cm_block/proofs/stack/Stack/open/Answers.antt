@@ -2,8 +2,18 @@ use Rattle.std.proofs.Common.{subst, sym, arith}
 use Rattle.std.proofs.lemmas.Grind.{common_steps}
 use Rattle.cm_block.specs.steps.FrameViews.{AreFramesPlaced}
 use Rattle.cm_block.specs.steps.LevelViews.{IsLevelPlaced}
+use Rattle.cm_block.specs.steps.FrameViews.{container_of}
+use Rattle.cm_block.proofs.lemmas.QuoteLemmas.{quotes-fit, quotes-pushed}
 use Rattle.cm_block.proofs.lemmas.RowLemmas.{one-more-frame}
 use Rattle.cm_block.proofs.stack.Stack.open.Goals as goal
+
+pub overflow_add-self : goal.overflow_add-self
+overflow_add-self c =
+    omega (arith, c.self.inside.counted, c.quotes.ensures, quotes-fit c.self.inside.frames.items (container_of c.args.container), c.self.inside.frames.small)
+
+pub invariant_of-self-inside-2 : goal.invariant_of-self-inside-2
+invariant_of-self-inside-2 c =
+    (quotes-pushed c.self.inside.frames.items c.push.new.self.items _ c.self.inside.quotes c.quotes.result c.in_ok-push.ensures.items c.self.inside.counted c.quotes.ensures, tt)
 
 pub invariant_of-self : goal.invariant_of-self
 invariant_of-self c = (

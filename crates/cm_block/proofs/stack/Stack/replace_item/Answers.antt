@@ -6,8 +6,10 @@ use Rattle.cm_block.specs.Frames.{an_item, Row}
 use Rattle.cm_block.specs.declared.stack.Frame.{Frame}
 use Rattle.cm_block.specs.declared.stack.Container.TheVariants.{Item}
 use Rattle.cm_block.specs.steps.FrameSteps.{close_container}
+use Rattle.cm_block.specs.steps.FrameViews.{container_of}
 use Rattle.cm_block.specs.steps.LevelViews.{level_in}
 use Rattle.cm_block.proofs.lemmas.FrameStartLemmas.{frame}
+use Rattle.cm_block.proofs.lemmas.QuoteLemmas.{quotes-replaced, continued-item}
 use Rattle.cm_block.proofs.lemmas.RowLemmas.{last-is, last-set, taken-placed, inside-is, next-placed, inside-next, next-is}
 use Rattle.cm_block.proofs.stack.Stack.replace_item.Goals as goal
 
@@ -18,6 +20,26 @@ begin_next_item-requires-clause-outer c =
     let last = c.in-Some.frame.now in
     let taken = last-is s.frames.items n last (omega arith) (c.in-Some.ensures.variant.0 refl) c.in-Some.ensures.value in
     (taken-placed s.chunks s.raw s.raw s.frames.items (take (n - 1) s.frames.items) last last.level taken refl c.self.invariant.0 (grows-same s.raw)).1
+
+pub invariant_of-self-inside-in-Break-1 : goal.invariant_of-self-inside-in-Break-1
+invariant_of-self-inside-in-Break-1 c =
+    let s = c.self.inside in
+    let n = vec_len s.frames in
+    let last = c.in-Some.frame.now in
+    let next : Frame = record { level = c.begin_next_item.new.outer; container = last.container } in
+    let taken = last-is s.frames.items n last (omega arith) (c.in-Some.ensures.variant.0 refl) c.in-Some.ensures.value in
+    let replaced = last-set s.frames.items n next (omega arith) (c.in-Some.ensures.variant.0 refl) in
+    (quotes-replaced s.frames.items (slice_set s.frames.items (n - 1) next) (take (n - 1) s.frames.items) last next s.quotes taken replaced refl s.counted, tt)
+
+pub invariant_of-self-inside-2 : goal.invariant_of-self-inside-2
+invariant_of-self-inside-2 c =
+    let s = c.self.inside in
+    let n = vec_len s.frames in
+    let last = c.in-Some.frame.now in
+    let next : Frame = record { level = c.begin_next_item.new.outer; container = Item c.args.kind c.args.column } in
+    let taken = last-is s.frames.items n last (omega arith) (c.in-Some.ensures.variant.0 refl) c.in-Some.ensures.value in
+    let replaced = last-set s.frames.items n next (omega arith) (c.in-Some.ensures.variant.0 refl) in
+    (quotes-replaced s.frames.items (slice_set s.frames.items (n - 1) next) (take (n - 1) s.frames.items) last next s.quotes taken replaced (continued-item c.args.kind (container_of last.container) (level_in s.raw last.level) (sym (c.is_continued_by.ensures s.raw) ∙ c.if-not-is_continued_by.false)) s.counted, tt)
 
 pub invariant_of-self-in_err-begin_next_item : goal.invariant_of-self-in_err-begin_next_item
 invariant_of-self-in_err-begin_next_item c =

@@ -10,10 +10,10 @@ use Rattle.cm_block.specs.steps.FrontViews.{frames_behind}
 use Rattle.cm_block.proofs.lemmas.RowLemmas.{no-frames, no-list, none-placed, shrunk-placed, finished}
 use Rattle.cm_block.proofs.stack.Stack.start_chunk.Goals as goal
 
-no-frame : (c : goal.After-push) → c.self.inside.frames.items ≡ []
+no-frame : (c : goal.After-self-2-1) → c.self.inside.frames.items ≡ []
 no-frame c = no-frames c.self.inside.raw c.self.inside.chunks c.self.inside.frames.items (ap (λ (r : Row). r.frames) c.self.view_is ∙ c.requires.frames)
 
-none-open : (c : goal.After-push) → c.self.inside.level.open_list ≡ None
+none-open : (c : goal.After-self-2-1) → c.self.inside.level.open_list ≡ None
 none-open c =
     no-list c.self.inside.raw c.self.inside.chunks c.self.inside.frames.items c.self.inside.level (ap (λ (r : Row). r.level.open_list) c.self.view_is ∙ c.requires.list)
 
