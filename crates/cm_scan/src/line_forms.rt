@@ -4,32 +4,82 @@
 //! can't differ only in case.
 ghost use Rattle.std.specs.Prelude.{◌≡◌, ◌+◌, ◌==◌, ◌<◌, ◌≤◌};
 ghost use Rattle.std.specs.Prelude.{ℕ, List, Some, None, length, drop, true, MatchOption, IfSome};
-ghost use Rattle.std.specs.List.{list_any};
+ghost use Rattle.std.specs.Prelude.{not, nat_le, count_by};
+ghost use Rattle.std.specs.List.{list_all, list_any};
 ghost use Rattle.std.specs.Str.{IsCharBoundary};
 ghost use Rattle.cm_scan.specs.Words.{given, begins_with};
 ghost use Rattle.cm_scan.specs.blocks.LineForms.{is_break_of, is_thematic_break, without_closing};
 ghost use Rattle.cm_scan.specs.blocks.LineForms.{atx_heading, is_underline_of, underline};
 ghost use Rattle.cm_scan.specs.blocks.LineForms.{fence_of, opening_fence, is_closing_fence};
 ghost use Rattle.cm_scan.specs.Scanned.{ending};
-ghost use Rattle.cm_scan.specs.steps.LineSteps.{is_break_marker};
+ghost use Rattle.cm_scan.specs.steps.LineSteps.{is_break_marker, is_in_break};
 
 use crate::words::{
     after_run, bytes_from, first_plain, is_at_gap, is_blank_text, is_space_or_tab, trim,
 };
+use cm_text::{ByteKind, next_of};
+use std::simd::prelude::*;
 
-/// Whether there are three or more of the marker, and otherwise spaces and tabs.
-fn is_break_of(marker: u8, bytes: &[u8]) -> bool
-    ensures { result ≡ is_break_of marker bytes.now }
+/// Bytes that no thematic break of a marker has.
+struct OutsideBreak<const MARKER: u8>;
+
+impl<const MARKER: u8> ByteKind for OutsideBreak<MARKER> {
+    ghost passes = { λ b. not (is_in_break MARKER b) };
+
+    #[inline(always)]
+    fn contains(b: u8) -> bool {
+        !is_in_break(MARKER, b)
+    }
+
+    #[inline(always)]
+    fn lanes(lanes: u8x16) -> u64 {
+        let marker = lanes.simd_ne(u8x16::splat(MARKER));
+        let blanks = lanes.simd_ne(u8x16::splat(b' ')) & lanes.simd_ne(u8x16::splat(b'\t'));
+        (marker & blanks).to_bitmask()
+    }
+}
+
+/// Whether a thematic break of a marker may have a byte.
+#[inline(always)]
+fn is_in_break(marker: u8, b: u8) -> bool
+    ensures { result ≡ is_in_break marker b }
+{
+    b == marker || is_space_or_tab(b)
+}
+
+/// Whether all bytes are in a thematic break of the marker.
+#[inline(always)]
+fn are_in_break<const MARKER: u8>(bytes: &[u8]) -> bool
+    ensures { result ≡ list_all (is_in_break MARKER) bytes.now }
+{
+    next_of::<OutsideBreak<MARKER>>(bytes, 0) == bytes.len()
+}
+
+/// Whether there are three or more of a byte.
+fn has_three(marker: u8, bytes: &[u8]) -> bool
+    ensures { result ≡ nat_le 3 (count_by (λ b. b == marker) bytes.now) }
 {
     let mut count: usize = 0;
     for b in bytes {
         if *b == marker {
             count += 1;
-        } else if !is_space_or_tab(*b) {
-            return false;
         }
     }
     count >= 3
+}
+
+/// Whether there are three or more of the marker, and otherwise spaces and tabs. A line of markers of items
+/// is searched like this at each of them.
+fn is_break_of(marker: u8, bytes: &[u8]) -> bool
+    requires { is_break_marker marker ≡ true }
+    ensures { result ≡ is_break_of marker bytes.now }
+{
+    let is_inside = match marker {
+        b'-' => are_in_break::<b'-'>(bytes),
+        b'_' => are_in_break::<b'_'>(bytes),
+        _ => are_in_break::<b'*'>(bytes),
+    };
+    is_inside && has_three(marker, bytes)
 }
 
 /// Whether a byte is one that a thematic break is made of.

@@ -1,5 +1,5 @@
 -- What a call from C returns.
-use Rattle.std.specs.Prelude.{◌≡◌, ◌⊎◌, ◌==◌, not, ℕ, suc, ◌^◌, ◌<◌, ◌≤◌, List, [], ◌∷◌, ◌++◌, length, drop, Option, Some, None, Result, Ok, Err, ⊤, option_map, if◌then◌else◌, Vec}
+use Rattle.std.specs.Prelude.{◌≡◌, ◌⊎◌, ◌==◌, not, Bool, ℕ, suc, ◌^◌, ◌<◌, ◌≤◌, List, [], ◌∷◌, ◌++◌, length, drop, Option, Some, None, Result, Ok, Err, ⊤, option_map, if◌then◌else◌, Vec}
 use Rattle.std.specs.Option.{option_or}
 use Rattle.std.specs.declared.alloc.Global.{Global}
 use Rattle.cm_text.specs.Rules.{Rules}
@@ -17,9 +17,18 @@ use Rattle.cmk_c.specs.Numbers.{number_of, place_of, message_line, IsLine}
 abbrev pub or_standard : ℕ → ℕ → ℕ
 or_standard number standard = if number == 0 then standard else number
 
+-- a rule is on if its byte isn't 0
+abbrev pub is_on : ℕ → Bool
+is_on byte = not (byte == 0)
+
 -- the rules of the options
 abbrev pub rules_asked : Options → Rules
-rules_asked options = record { older = options.older; strike = options.strike; raw_html = not options.no_html; any_address = not options.web_links }
+rules_asked options = record {
+  older = is_on options.older;
+  strike = is_on options.strike;
+  raw_html = not (is_on options.no_html);
+  any_address = not (is_on options.web_links);
+}
 
 -- limits with these rules
 abbrev pub with_rules : Rules → LimitsView → LimitsView

@@ -113,8 +113,3 @@ changed-alone = refl
 
 pub changed-byte : (b : ℕ) → b < 256 → (bit_and (get_or PLAIN_LOW (bit_and b 15) 0) (get_or PLAIN_HIGH (b / 2 ^ 4) 0) == 0) ≡ is_changed b
 changed-byte b small = agree_below_at (λ x. bit_and (get_or PLAIN_LOW (bit_and x 15) 0) (get_or PLAIN_HIGH (x / 2 ^ 4) 0) == 0) is_changed 256 b changed-alone small
-
--- no byte passes where the first that does would be at the end
-pub none-before-end : (p : ℕ → Bool) (bs : List ℕ) → (next_place p bs 0 == length bs) ≡ list_all (λ b. not (p b)) bs
-none-before-end p [] = refl
-none-before-end p (b ∷ bs) = let more = none-before-end p bs in grind (arith, nat_tests, more)

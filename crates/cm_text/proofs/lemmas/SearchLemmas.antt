@@ -1,5 +1,5 @@
 -- The next byte that passes a test, found many lanes at a time.
-use Rattle.std.proofs.Common.{◌≡◌, ℕ, zero, suc, ◌+◌, ◌-◌, ◌*◌, ◌/◌, ◌%◌, ◌^◌, ◌<◌, ◌≤◌, bit_and, Bool, true, false, not, cond, eqb, replicate, List, [], ◌∷◌, map, nat_lt, Option, Some, None, inl, inr, length, drop, get_or, subst, refl, sym, ap, ap₂, ◌∙◌, arith, w8, Fits, length-drop}
+use Rattle.std.proofs.Common.{◌≡◌, ℕ, zero, suc, ◌+◌, ◌-◌, ◌*◌, ◌/◌, ◌%◌, ◌^◌, ◌<◌, ◌≤◌, ◌==◌, bit_and, Bool, true, false, not, cond, eqb, replicate, List, [], ◌∷◌, map, nat_lt, Option, Some, None, inl, inr, length, drop, get_or, subst, refl, sym, ap, ap₂, ◌∙◌, arith, w8, Fits, length-drop}
 use Rattle.std.specs.Simd.Lanes.{zip2, mask_l, top, Each1}
 use Rattle.std.proofs.lemmas.Nat.{and_le_r}
 use Rattle.std.proofs.lemmas.Simd.{map-map, mask_l-mod, zip2_splat, swz_l, length-swz_l, get_or-swz_l_below, SwzOk, SwzOk-from_below}
@@ -12,7 +12,7 @@ use Rattle.std.proofs.lemmas.List.Sums.{prefix_len-le-length, position_or_len_is
 use Rattle.std.proofs.lemmas.Bool.{cases_lt, agree_below, agree_below_at, ltb-true, ltb-false, true≢false}
 use Rattle.std.specs.Bool.{then_some}
 use Rattle.std.specs.Option.{is_some}
-use Rattle.std.specs.List.{position_or_len, prefix_len}
+use Rattle.std.specs.List.{list_all, position_or_len, prefix_len}
 use Rattle.memchr.specs.Find.{IsFirstByte}
 use Rattle.cm_text.specs.Search.{next_place, is_no_space}
 
@@ -156,6 +156,11 @@ first-byte p bs at found place e = subst (IsFirstByte p bs) (sym e) (go (nat_lt 
 -- searching from the front
 pub from_the_front : (p : ℕ → Bool) (bs : List ℕ) → next_place p bs 0 ≡ position_or_len p bs
 from_the_front p bs = omega (arith, prefix_len-le-length (λ b. not (p b)) bs)
+
+-- no byte passes where the first that does would be at the end
+pub none-before-end : (p : ℕ → Bool) (bs : List ℕ) → (next_place p bs 0 == length bs) ≡ list_all (λ b. not (p b)) bs
+none-before-end p [] = refl
+none-before-end p (b ∷ bs) = let more = none-before-end p bs in grind (arith, nat_tests, more)
 
 -- ---- the spaces before a text
 

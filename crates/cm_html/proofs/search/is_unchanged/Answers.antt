@@ -1,6 +1,6 @@
 use Rattle.std.proofs.Common.{◌∙◌, ap, length, ◌==◌}
 use Rattle.cm_html.specs.steps.Bytes.{is_changed}
-use Rattle.cm_html.proofs.lemmas.Destinations.{none-before-end}
+use Rattle.cm_text.proofs.lemmas.SearchLemmas.{none-before-end}
 use Rattle.cm_html.proofs.search.is_unchanged.Goals as goal
 
 pub returns : goal.returns

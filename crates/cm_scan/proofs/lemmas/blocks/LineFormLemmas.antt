@@ -1,13 +1,57 @@
 -- What a line is, by the bytes that the scanners look at.
-use Rattle.std.proofs.Common.{⊎_elim, ◌≡◌, ℕ, zero, suc, ◌-◌, ◌<◌, ◌≤◌, ◌==◌, Bool, true, false, ◌||◌, List, [], ◌∷◌, length, take, drop, get_or, Some, None, refl, sym, ap, ◌∙◌, arith, drop-cons}
+use Rattle.std.proofs.Common.{⊎_elim, bit_and, cond, eqb, ◌≡◌, ℕ, zero, suc, ◌-◌, ◌<◌, ◌≤◌, ◌==◌, Bool, true, false, ◌&&◌, ◌||◌, List, [], ◌∷◌, length, take, drop, get_or, Some, None, refl, sym, ap, ap₂, ◌∙◌, arith, drop-cons}
 use Rattle.std.specs.Prelude.{not}
 use Rattle.std.specs.List.{list_all, list_any, find}
 use Rattle.std.proofs.lemmas.Bool.{cases_eq, cases_Bool, false_from_ne_true}
+use Rattle.std.proofs.lemmas.Bool.Decides.{nat_tests}
+use Rattle.std.proofs.lemmas.Bool.{agree_below}
+use Rattle.std.specs.Bool.{beq}
+use Rattle.std.specs.Simd.Lanes.{top}
+use Rattle.cm_text.specs.Search.{next_place}
+use Rattle.cm_text.proofs.lemmas.SearchLemmas.{none-before-end}
 use Rattle.cm_scan.specs.Words.{is_space_or_tab, run_length, after_run, trim, is_at_gap, is_blank_text, begins_with, given}
-use Rattle.cm_scan.specs.steps.LineSteps.{is_plain, is_break_marker}
+use Rattle.cm_scan.specs.steps.LineSteps.{is_plain, is_break_marker, is_in_break}
 use Rattle.cm_scan.specs.blocks.LineForms.{is_break_of, is_thematic_break, without_closing, atx_heading, is_underline_of, underline, Fence, fence_of, opening_fence, is_closing_fence}
 
 -- thematic breaks
+
+twice-not : (p : ℕ → Bool) (bs : List ℕ) → list_all (λ b. not (not (p b))) bs ≡ list_all p bs
+twice-not p [] = refl
+twice-not p (b ∷ bs) = ap₂ (λ x y. x && y) (not-not (p b)) (twice-not p bs)
+  where
+    not-not : (x : Bool) → not (not x) ≡ x
+    not-not true = refl
+    not-not false = refl
+
+pub all-to-the-end : (p : ℕ → Bool) (bs : List ℕ) → (next_place (λ b. not (p b)) bs 0 == length bs) ≡ list_all p bs
+all-to-the-end p bs = none-before-end (λ b. not (p b)) bs ∙ twice-not p bs
+
+-- three lanes, each of which is zero where a byte is one that a break has
+abbrev pub unlike : ℕ → ℕ → ℕ
+unlike x y = cond (not (eqb x y)) 255 0
+
+three-lanes : (a b c : Bool) → top 7 (bit_and (cond (not a) 255 0) (bit_and (cond (not b) 255 0) (cond (not c) 255 0))) ≡ not (a || (b || c))
+three-lanes true true true = refl
+three-lanes true true false = refl
+three-lanes true false true = refl
+three-lanes true false false = refl
+three-lanes false true true = refl
+three-lanes false true false = refl
+three-lanes false false true = refl
+three-lanes false false false = refl
+
+agree-everywhere : (f g : ℕ → Bool) (n : ℕ) → ((x : ℕ) → f x ≡ g x) → agree_below f g n ≡ true
+agree-everywhere f g zero same = refl
+agree-everywhere f g (suc n) same = ap₂ (λ x y. beq x (g n) && y) (same n) (agree-everywhere f g n same) ∙ ap (λ x. x && true) (beq-same (g n))
+  where
+    beq-same : (b : Bool) → beq b b ≡ true
+    beq-same true = refl
+    beq-same false = refl
+
+pub outside-lanes : (marker : ℕ) → agree_below (λ x. top 7 (bit_and (unlike x marker) (bit_and (unlike x 32) (unlike x 9)))) (λ b. not (is_in_break marker b)) 256 ≡ true
+outside-lanes marker =
+    agree-everywhere (λ x. top 7 (bit_and (unlike x marker) (bit_and (unlike x 32) (unlike x 9)))) (λ b. not (is_in_break marker b)) 256
+    (λ x. three-lanes (eqb x marker) (eqb x 32) (eqb x 9))
 
 -- a space or tab at the start doesn't decide
 break-blank : (m b : ℕ) (bs : List ℕ) → is_space_or_tab m ≡ false → is_space_or_tab b ≡ true → is_break_of m (b ∷ bs) ≡ is_break_of m bs

@@ -1,0 +1,7 @@
+use Rattle.std.proofs.Common.{◌∙◌, ◌==◌, not, length, ap}
+use Rattle.cm_scan.specs.steps.LineSteps.{is_in_break}
+use Rattle.cm_scan.proofs.lemmas.blocks.LineFormLemmas.{all-to-the-end}
+use Rattle.cm_scan.proofs.line_forms.are_in_break.Goals as goal
+
+pub returns : goal.returns
+returns g c = ap (λ n. n == length c.args.bytes.now) c.next_of.ensures ∙ all-to-the-end (is_in_break g.row.MARKER) c.args.bytes.now
