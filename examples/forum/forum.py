@@ -55,15 +55,16 @@ article { margin: 1.5rem 0; padding: .5rem 1.25rem; border: 1px solid #8886; bor
 pre { overflow-x: auto } blockquote { margin-left: 0; padding-left: 1rem; border-left: 3px solid #8886 }
 label { display: block; margin: .75rem 0 } input, textarea { box-sizing: border-box; width: 100%; padding: .5rem }
 input, textarea, button { border: 1px solid light-dark(#767676, #8c8c8c); border-radius: 6px; font: inherit }
-button { padding: .5rem 1.25rem } nav a, li a { display: inline-block; min-width: 24px; min-height: 24px }
+button { padding: .5rem 1.25rem } nav { margin: 1rem 0 }
+nav a, li a { display: inline-block; min-width: 24px; min-height: 24px }
 :focus-visible { outline: 3px solid light-dark(#0a6b60, #62c9ba); outline-offset: 2px }
 footer, .image { color: light-dark(#555, #aaa) } .image { padding: 0 .4em; border: 1px dashed }
 [role=alert] { color: light-dark(#b3261e, #ff8f86) } [aria-invalid] { border-color: light-dark(#b3261e, #ff8f86) }
 """
 MOST = {"author": 80, "title": 200}
 FIELDS = {
-    "author": '<label>Name <input name="author" required maxlength="80" value="{value}"{mark}></label>\n',
-    "title": '<label>Title <input name="title" required maxlength="200" value="{value}"{mark}></label>\n',
+    "author": '<label>Name <input name="author" required maxlength="{most}" value="{value}"{mark}></label>\n',
+    "title": '<label>Title <input name="title" required maxlength="{most}" value="{value}"{mark}></label>\n',
     "text": '<label>Text, in CommonMark <textarea name="text" rows="10" required{mark}>\n{value}</textarea></label>\n',
 }
 HOME = '<nav><a href="/">All posts</a></nav>\n'
@@ -152,7 +153,7 @@ def form(sent, refused=None):
         if refused and refused.field == name:
             parts.append(f'<p role="alert" id="why">{html.escape(str(refused))}</p>\n')
             mark = ' aria-invalid="true" aria-describedby="why" autofocus'
-        parts.append(field.format(value=html.escape(sent.get(name, "")), mark=mark))
+        parts.append(field.format(value=html.escape(sent.get(name, "")), mark=mark, most=MOST.get(name)))
     return f'<form method="post" action="/">\n{"".join(parts)}<button>Post</button>\n</form>\n'
 
 
