@@ -75,6 +75,11 @@
     boxed: () => boxed(blocks(page().body).map(edges)),
     listing: () => listing(document.querySelector("#tree .nodes"), 0).join(""),
     error: () => [lines("wrong"), document.querySelector("#lines mark")?.textContent ?? "", document.querySelector("#error span").textContent],
+    // How many of some elements aren't all within the window.
+    outside: (selector) => [...document.querySelectorAll(selector)].filter((it) => {
+      const { left, right, top, bottom } = it.getBoundingClientRect();
+      return left < 0 || top < 0 || right > innerWidth || bottom > innerHeight;
+    }).length,
     contrast: (pairs) => Math.min(...pairs.map(([one, other]) => contrast(one, other))),
     write: (it) => {
       text.value = it;

@@ -21,17 +21,19 @@ function asked() {
   const given = {};
   for (const { name, type, checked, valueAsNumber } of options.elements) {
     if (type === "checkbox") given[name] = checked;
-    else if (!Number.isNaN(valueAsNumber)) given[name] = valueAsNumber;
+    else if (type === "number" && !Number.isNaN(valueAsNumber)) given[name] = valueAsNumber;
   }
   return given;
 }
 
-// --safe includes two of the others.
+// --safe turns two of the others on. Meanwhile `defaultChecked` keeps how they were.
 function showImplied() {
+  const isSafe = options.elements.safe.checked;
   for (const name of ["no_html", "web_links"]) {
     const implied = options.elements[name];
-    implied.disabled = options.elements.safe.checked;
-    implied.indeterminate = implied.disabled;
+    if (!implied.disabled) implied.defaultChecked = implied.checked;
+    implied.disabled = isSafe;
+    implied.checked = isSafe || implied.defaultChecked;
   }
 }
 
@@ -41,8 +43,7 @@ async function answer() {
   const body = JSON.stringify({ text: editor.text, options: asked() });
   try {
     const came = await fetch("convert", { method: "POST", headers: { "Content-Type": "application/json" }, body });
-    if (came.ok) return await came.json();
-    return { error: came.status === 413 ? "The text is too long for this page." : await came.text() };
+    return came.ok ? await came.json() : { error: await came.text() };
   } catch {
     return { error: "The program that serves this page doesn’t answer." };
   }

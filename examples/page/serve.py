@@ -3,14 +3,15 @@
 
   python3 examples/page/serve.py [--port N] [FILE]
 
-It prints the page's address. The page starts with the text of FILE, or with a sample. What is typed is sent to this program, which calls the
-library and answers in JSON; the page loads nothing from elsewhere.
+It prints the page's address. The page starts with the text of FILE, or with a sample. What is typed is sent to this
+program, which calls the library and answers in JSON; the page loads nothing from elsewhere.
 """
 
 import argparse
 import http.server
 import json
 import pathlib
+import re
 import sys
 import time
 
@@ -19,8 +20,10 @@ sys.path += [str(HERE.parents[1] / "bindings/python"), str(HERE.parent)]
 import cmk  # noqa: E402
 import render_tree  # noqa: E402
 
-# The longest text that the page may send.
+# The longest request that the page may send.
 LONGEST = 16 << 20
+# The names by which this machine reaches the page. No other site can give its name to it and read what it serves.
+NAMES = ("127.0.0.1", "localhost")
 # The policy of the page, and that of the frame with the rendered text: no scripts, and nothing from the network.
 FOR_BOTH = "default-src 'none'; img-src data:; base-uri 'none'; form-action 'none'; "
 POLICY = FOR_BOTH + "script-src 'self'; style-src 'self'; connect-src 'self'; frame-src 'self'; frame-ancestors 'none'"
@@ -78,7 +81,7 @@ def units_before(text, place):
 
 
 def lines_of_leaf(number, text, options):
-    """Returns the lines of a leaf whose inlines nest too deep for the options, or None if they nest too deep for any."""
+    """Returns the lines of a leaf whose inlines nest too deep for the options, or None if they do for any."""
     try:
         leaves = [it for it in cmk.walk(cmk.parse(text, **{**options, "inlines": DEEPEST})) if is_leaf(it)]
     except cmk.CmkError:
@@ -118,50 +121,87 @@ def answer(text, options):
     return {"microseconds": took / 1000, "pieces": pieces, "listing": listing, "source": spelled(text, options)}
 
 
+class Refused(Exception):
+    """Why a request is refused: the status and a sentence."""
+
+    def __init__(self, status, why):
+        super().__init__(why)
+        self.status = status
+
+
+def limits_of(given):
+    """Returns the limits that are given. One out of its range is a ValueError."""
+    found = {it: given[it] for it in LIMITS if it in given}
+    for name, value in found.items():
+        if type(value) is not int or not 1 <= value <= DEEPEST:
+            raise ValueError(f"--{name} takes a whole number from 1 to {DEEPEST}.")
+    return found
+
+
 def asked_of(body):
-    """Returns the text and the options of a request. A request in another form is a ValueError."""
-    asked = json.loads(body)
+    """Returns the text and the options of a request. A request in another form is refused."""
     try:
+        asked = json.loads(body)
         text, given = asked["text"], asked["options"]
         if not isinstance(text, str):
-            raise ValueError("the text is no string")
-        return text, {**{it: bool(given.get(it)) for it in FLAGS}, **{it: int(given[it]) for it in LIMITS if it in given}}
-    except (AttributeError, KeyError, TypeError) as why:
-        raise ValueError(f"the request has another form: {why}") from why
+            raise ValueError("The text is no string.")
+        return text, {**{it: bool(given.get(it)) for it in FLAGS}, **limits_of(given)}
+    except ValueError as why:
+        raise Refused(400, str(why)) from why
+    except (AttributeError, KeyError, RecursionError, TypeError) as why:
+        raise Refused(400, f"The request has another form: {why}") from why
 
 
 class Handler(http.server.BaseHTTPRequestHandler):
     """Answers the page's requests."""
 
     protocol_version = "HTTP/1.1"
-    # The head and the body of an answer go out together, since the second of two small packets would wait for an acknowledgement.
+    # The head and the body of an answer go out together, since the second of two small packets would wait for an
+    # acknowledgement.
     wbufsize = -1
+    # How many seconds a connection may be silent.
+    timeout = 60
     sample = HERE / "sample.md"
 
     def do_GET(self):
+        self.reply(self.file)
+
+    def do_POST(self):
+        self.reply(self.conversion)
+
+    def reply(self, make):
+        """Sends what a call makes, or why it refuses."""
+        try:
+            if self.headers.get("Host", "").partition(":")[0] not in NAMES:
+                raise Refused(421, "This page has another address.")
+            self.send(200, *make())
+        except Refused as why:
+            self.close_connection = True
+            self.send(why.status, "text/plain", f"{why}\n".encode(), POLICY)
+
+    def file(self):
+        """Returns the type, the content and the policy of a file."""
         path = self.path.partition("?")[0]
         if path == "/sample":
             # A byte that isn't UTF-8 becomes a surrogate, which the library refuses at the same place.
             text = self.sample.read_bytes().decode(errors="surrogateescape")
-            self.send(200, "application/json", json.dumps(text).encode(), POLICY)
-        elif path in FILES:
-            name, kind, policy = FILES[path]
-            self.send(200, kind, (HERE / name).read_bytes(), policy)
-        else:
-            self.send(404, "text/plain", b"There is no such page.\n", POLICY)
+            return "application/json", json.dumps(text).encode(), POLICY
+        if path not in FILES:
+            raise Refused(404, "There is no such page.")
+        name, kind, policy = FILES[path]
+        return kind, (HERE / name).read_bytes(), policy
 
-    def do_POST(self):
+    def conversion(self):
+        """Returns the same for what the library makes of a text."""
         length = self.headers.get("Content-Length", "")
-        if self.path != "/convert" or not length.isdigit() or int(length) > LONGEST:
-            self.close_connection = True
-            self.send(413 if self.path == "/convert" else 404, "text/plain", b"", POLICY)
-            return
-        try:
-            told = json.dumps(answer(*asked_of(self.rfile.read(int(length)))))
-        except ValueError as why:
-            self.send(400, "text/plain", f"{why}\n".encode(), POLICY)
-            return
-        self.send(200, "application/json", told.encode(), POLICY)
+        if self.path != "/convert":
+            raise Refused(404, "There is no such page.")
+        if not re.fullmatch("[0-9]+", length):
+            raise Refused(411, "The request doesn’t say how long it is.")
+        if len(length) > 9 or int(length) > LONGEST:
+            raise Refused(413, "The text is too long for this page.")
+        text, options = asked_of(self.rfile.read(int(length)))
+        return "application/json", json.dumps(answer(text, options)).encode(), POLICY
 
     def send(self, status, kind, body, policy):
         self.send_response(status)
@@ -179,6 +219,13 @@ class Handler(http.server.BaseHTTPRequestHandler):
         """Keeps the terminal quiet."""
 
 
+class Server(http.server.ThreadingHTTPServer):
+    def handle_error(self, request, client_address):
+        """Reports an error, unless the browser has left before its answer."""
+        if not isinstance(sys.exc_info()[1], ConnectionError):
+            super().handle_error(request, client_address)
+
+
 def main():
     words = argparse.ArgumentParser(description=__doc__.partition("\n")[0])
     words.add_argument("file", metavar="FILE", nargs="?", type=pathlib.Path, default=Handler.sample)
@@ -187,7 +234,7 @@ def main():
     if not asked.file.is_file():
         words.error(f"there is no file {asked.file}")
     Handler.sample = asked.file
-    with http.server.ThreadingHTTPServer(("127.0.0.1", asked.port), Handler) as server:
+    with Server(("127.0.0.1", asked.port), Handler) as server:
         print(f"http://127.0.0.1:{server.server_port}/", flush=True)
         try:
             server.serve_forever()

@@ -6,34 +6,36 @@
     >>> [node["type"] for node in cmk.walk(cmk.parse("a & *b*"))]
     ['root', 'paragraph', 'text', 'emphasis', 'text']
 
-Each call takes a `str`, or the bytes of a text; threads may call at once. A text that is refused raises `CmkError`. The tree is mdast, and has
-a type for each node; docs/cmk.md describes their members.
+Each call takes a `str`, or the bytes of a text; threads may call at once. A text that is refused raises `CmkError`,
+which has a `Fault`. The tree is mdast, and has a type for each node; docs/cmk.md describes their members.
 
-The library is the first of these that exists: the file that the variable CMK_LIBRARY names, libcmk.so.0 beside this file, where a wheel has
-it, the one in the folder that `pkg-config --variable=libdir cmk` reports, and the libcmk.so.0 that the system finds. If there is none,
-importing this package fails with an `ImportError` that says so.
+The library is the first of these that exists: the file that the variable CMK_LIBRARY names, libcmk.so.0 beside this
+file, where a wheel has it, the one in the folder that `pkg-config --variable=libdir cmk` reports, and the libcmk.so.0
+that the system finds. If there is none, or it is another library, importing this package fails with an `ImportError`
+that says so.
 """
 
 import ctypes
+import enum
+import inspect
 import os
 import subprocess
 from collections.abc import Callable, Iterator
 from json import JSONDecoder as _JSONDecoder
-from typing import TYPE_CHECKING, Any, Literal, Optional, TypedDict, Union
+from typing import TYPE_CHECKING, Any, Literal, Optional, TypedDict, TypeVar, Union
 
 if TYPE_CHECKING:
     from typing_extensions import Unpack
 
 # fmt: off
 __all__ = [
-    "Block", "Blockquote", "Break", "CmkError", "Code", "Definition", "Delete", "Emphasis", "Heading", "Html", "Image", "Inline", "InlineCode",
-    "Link", "List", "ListItem", "Node", "Options", "Paragraph", "Root", "Source", "Strong", "Text", "ThematicBreak", "html", "json", "parse",
-    "rewrite", "tree", "version", "walk",
+    "Block", "Blockquote", "Break", "CmkError", "Code", "Definition", "Delete", "Emphasis", "Fault", "Heading", "Html",
+    "Image", "Inline", "InlineCode", "Link", "List", "ListItem", "Node", "Options", "Paragraph", "Root", "Source",
+    "Strong", "Text", "ThematicBreak", "html", "json", "parse", "rewrite", "tree", "version", "walk",
 ]
 # fmt: on
 
 _NAME = "libcmk.so.0"
-_OUT_OF_RANGE = 11
 _LINE_ROOM = 127
 _decoder = _JSONDecoder()
 
@@ -77,32 +79,35 @@ def _folder() -> Optional[str]:
 
 
 def _loaded() -> ctypes.CDLL:
-    """Returns the library."""
+    """Returns the library, with the types of its calls."""
     named = os.environ.get("CMK_LIBRARY")
     if not named:
         folder = _folder()
         named = os.path.join(folder, _NAME) if folder else _NAME
     try:
-        return ctypes.CDLL(named)
+        library = ctypes.CDLL(named)
+        _declare(library)
     except OSError as why:
         raise ImportError(f"{why}: install libcmk, or let the variable CMK_LIBRARY name {_NAME}") from why
+    except AttributeError as why:
+        raise ImportError(f"{named} isn't {_NAME}, or has another version: {why}") from why
+    return library
+
+
+def _declare(library: ctypes.CDLL) -> None:
+    """Gives the calls of the library their types. One that isn't there is an `AttributeError`."""
+    for call in (library.cmk_html, library.cmk_tree, library.cmk_json, library.cmk_rewrite):
+        call.argtypes = [ctypes.c_char_p, ctypes.c_size_t, ctypes.POINTER(_Options), ctypes.POINTER(_Output)]
+        call.restype = ctypes.c_uint32
+    room = [ctypes.c_char_p, ctypes.c_size_t, ctypes.POINTER(_Filled)]
+    library.cmk_fault_text.argtypes = [ctypes.c_uint32, ctypes.c_size_t, *room]
+    library.cmk_fault_text.restype = ctypes.c_uint32
+    library.cmk_version.argtypes, library.cmk_version.restype = [], ctypes.c_uint32
 
 
 _library = _loaded()
 _free = ctypes.CDLL(None).free
 _free.argtypes, _free.restype = [ctypes.c_void_p], None
-for _call in (_library.cmk_html, _library.cmk_tree, _library.cmk_json, _library.cmk_rewrite):
-    _call.argtypes = [ctypes.c_char_p, ctypes.c_size_t, ctypes.POINTER(_Options), ctypes.POINTER(_Output)]
-    _call.restype = ctypes.c_uint32
-_library.cmk_fault_text.argtypes = [
-    ctypes.c_uint32,
-    ctypes.c_size_t,
-    ctypes.c_char_p,
-    ctypes.c_size_t,
-    ctypes.POINTER(_Filled),
-]
-_library.cmk_fault_text.restype = ctypes.c_uint32
-_library.cmk_version.argtypes, _library.cmk_version.restype = [], ctypes.c_uint32
 
 
 class Lines(TypedDict):
@@ -217,7 +222,7 @@ class _Text(TypedDict):
 
 
 class Text(_Text, total=False):
-    """Text, or a soft line break, which is one line feed. `data` is there if a character reference makes that line feed."""
+    """Text, or a soft line break, which is one line feed. `data` is there if a character reference makes it."""
 
     data: TextData
 
@@ -276,10 +281,10 @@ Source = Union[str, bytes, bytearray, memoryview]
 class Options(TypedDict, total=False):
     """The options of a call.
 
-    `bytes` is the greatest length of the text in UTF-8, 1 to 2^30; 2^28 if it is left out. `blocks` is how many quotes and list items may
-    enclose a line, and `inlines` how deep emphasis, links and images may nest, each 1 to 500; 100 if it is left out. `older` selects the
-    older rules, and `strike` reads text between two tildes as struck through. `no_html` reads raw HTML as text, `web_links` links that
-    don't lead to the web, and `safe` both.
+    `bytes` is the greatest length of the text in UTF-8, 1 to 2^30; 2^28 if it is left out. `blocks` is how many quotes
+    and list items may enclose a line, and `inlines` how deep emphasis, links and images may nest, each 1 to 500; 100 if
+    it is left out. `older` selects the older rules, and `strike` reads text between two tildes as struck through.
+    `no_html` reads raw HTML as text, `web_links` links that don't lead to the web, and `safe` both.
 
     >>> html("~~a~~ <b>", strike=True, safe=True)
     '<p><del>a</del> &lt;b&gt;</p>\\n'
@@ -295,21 +300,38 @@ class Options(TypedDict, total=False):
     safe: bool
 
 
+class Fault(enum.IntEnum):
+    """What the library returns if there is no output. include/cmk.h says what the place of each is."""
+
+    NOT_UTF8 = 1
+    TOO_LONG = 2
+    BLOCKS_TOO_DEEP = 3
+    INLINES_TOO_DEEP = 4
+    NO_MEMORY = 5
+    CANNOT_SPELL = 8
+    OUT_OF_RANGE = 11
+    NO_ROOM = 12
+
+    # Python 3.9 and 3.10 would write the name.
+    __str__ = int.__repr__
+
+
 class CmkError(Exception):
     """Why there is no output.
 
-    `number` is what the library returned, as include/cmk.h has it: 1 for bytes that aren't UTF-8, and so on. `place` is the byte, the line
-    or the leaf, or the number of the reason. `line` is the line that the program prints.
+    `number` is a `Fault`, or an int if a newer library returns one that isn't there. `place` is the byte, the line or
+    the leaf, or the number of the reason. `line` is the line that the program prints.
 
     >>> try:
     ...     html(bytes([97, 98, 255]))
     ... except CmkError as error:
-    ...     print(error.number, error.place, error.line)
-    1 2 cmk: F1 not UTF-8 at byte 2
+    ...     print(error.number == Fault.NOT_UTF8, error.number, error.place, error.line)
+    True 1 2 cmk: F1 not UTF-8 at byte 2
     """
 
     def __init__(self, number: int, place: int) -> None:
-        self.number, self.place, self.line = number, place, _line(number, place)
+        self.number: int = Fault(number) if number in Fault.__members__.values() else number
+        self.place, self.line = place, _line(number, place)
         super().__init__(self.line)
 
     def __reduce__(self) -> tuple[type["CmkError"], tuple[int, int]]:
@@ -325,10 +347,13 @@ def _line(number: int, place: int) -> str:
 
 
 def _encoded(text: Source) -> bytes:
-    """Returns the bytes of a text. The library refuses those of a lone surrogate, since they aren't UTF-8."""
+    """Returns the bytes of a text. The library refuses those of a lone surrogate, since they aren't UTF-8.
+
+    A subclass may have another `encode` or `__len__`, so only the types themselves are asked.
+    """
     if isinstance(text, str):
-        return text.encode(errors="surrogatepass")
-    return text if isinstance(text, bytes) else bytes(memoryview(text))
+        return str.encode(text, errors="surrogatepass")
+    return text if type(text) is bytes else bytes(memoryview(text))
 
 
 def _asked(
@@ -344,12 +369,15 @@ def _asked(
     """Returns the options as the library takes them."""
     # It takes 0 for the default, and ctypes cuts a wide number.
     if not (1 <= bytes <= 1 << 30 and 1 <= blocks <= 500 and 1 <= inlines <= 500):
-        raise CmkError(_OUT_OF_RANGE, 0)
+        raise CmkError(Fault.OUT_OF_RANGE, 0)
     return _Options(bytes, blocks, inlines, older, strike, no_html or safe, web_links or safe)
 
 
 def _called(call: Callable[..., int], text: Source, options: Options) -> str:
     """Returns the output of a call for a text."""
+    unknown = sorted(options.keys() - Options.__annotations__.keys())
+    if unknown:
+        raise TypeError(f"cmk has no option {unknown[0]!r}; its options are {', '.join(Options.__annotations__)}")
     asked, given, output, nothing = _asked(**options), _encoded(text), _Output(), ctypes.c_char(0)
     output.bytes = ctypes.addressof(nothing)
     number = call(given, len(given), ctypes.byref(asked), ctypes.byref(output))
@@ -361,21 +389,36 @@ def _called(call: Callable[..., int], text: Source, options: Options) -> str:
         _free(output.bytes)
 
 
+_Call = TypeVar("_Call", bound=Callable[..., Any])
+
+
+def _with_options(call: _Call) -> _Call:
+    """Puts each option into the signature of a call, where `help` and editors look for them."""
+    signature = inspect.signature(call)
+    text = signature.parameters["text"]
+    options = [it.replace(kind=it.KEYWORD_ONLY) for it in inspect.signature(_asked).parameters.values()]
+    setattr(call, "__signature__", signature.replace(parameters=[text, *options]))
+    return call
+
+
+@_with_options
 def html(text: Source, **options: "Unpack[Options]") -> str:
     """Returns the HTML of a text, as `cmk render` writes it.
 
     >>> html("<b>a</b> [b](javascript:c)", safe=True)
     '<p>&lt;b&gt;a&lt;/b&gt; [b](javascript:c)</p>\\n'
 
-    `Options` describes the options. Raises `CmkError` if the text has a fault, memory runs out, or a number is out of range. A `str` with a lone surrogate isn't UTF-8.
+    `Options` describes the options. Raises `CmkError` if the text has a fault, memory runs out, or a number is out of
+    range. A `str` with a lone surrogate isn't UTF-8.
 
     Without `safe`, raw HTML in the text is written unchanged, and `javascript:` links stay.
     """
     return _called(_library.cmk_html, text, options)
 
 
+@_with_options
 def tree(text: Source, **options: "Unpack[Options]") -> str:
-    """Returns the listing of the tree of a text and of the owners of its lines, as `cmk tree` writes it. Else as `html`.
+    """Returns the listing of a text's tree and of the owners of its lines, as `cmk tree` writes it. Else as `html`.
 
     >>> print(tree("# *a*"), end="")
     heading 1
@@ -386,8 +429,9 @@ def tree(text: Source, **options: "Unpack[Options]") -> str:
     return _called(_library.cmk_tree, text, options)
 
 
+@_with_options
 def json(text: Source, **options: "Unpack[Options]") -> str:
-    """Returns the tree of a text in JSON, as `cmk tree --json` writes it, without the line feed at its end. Else as `html`.
+    """Returns the tree of a text in JSON, as `cmk tree --json` writes it, without its last line feed. Else as `html`.
 
     >>> json("---")
     '{"type":"root","data":{"lines":[1,1]},"children":[{"type":"thematicBreak","data":{"lines":[1,1]}}]}'
@@ -395,8 +439,9 @@ def json(text: Source, **options: "Unpack[Options]") -> str:
     return _called(_library.cmk_json, text, options)
 
 
+@_with_options
 def parse(text: Source, **options: "Unpack[Options]") -> Root:
-    """Returns the tree of a text as dictionaries and lists: the values of `json`, however deep they nest. Else as `html`.
+    """Returns the tree of a text as dictionaries and lists: the values of `json`, at every depth. Else as `html`.
 
     >>> parse("# a")["children"][0]["depth"]
     1
@@ -411,7 +456,10 @@ def parse(text: Source, **options: "Unpack[Options]") -> Root:
 
 
 def _read(text: str) -> Any:
-    """Returns the value of a JSON text that nests too deep for Python's reader, which recurses. That reads its strings and numbers."""
+    """Returns the value of a JSON text that nests too deep for Python's reader, which recurses.
+
+    Python's reader reads its strings and numbers.
+    """
     whole: list[Any] = []
     around: list[Any] = [whole]
     value: Any
@@ -452,10 +500,11 @@ def walk(tree: Node) -> Iterator[Node]:
         left.extend(reversed(node.get("children", ())))
 
 
+@_with_options
 def rewrite(text: Source, **options: "Unpack[Options]") -> str:
     """Returns plain source of the tree of a text without its definitions, as `cmk rewrite` writes it.
 
-    Raises `CmkError` as `html` does, and where the tree can't be spelled, with the number 8. Else as `html`.
+    Raises `CmkError` as `html` does, and with `Fault.CANNOT_SPELL` if the tree can't be spelled. Else as `html`.
 
     >>> rewrite("a\\n===\\n")
     '# a\\n'

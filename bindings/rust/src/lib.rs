@@ -7,7 +7,7 @@
 //! assert_eq!(&*html, "<p>a &amp; <em>b</em> <del>c</del></p>\n");
 //!
 //! let error = cmk::html(b"ab\xff", &Options::default()).unwrap_err();
-//! assert_eq!((error.number, error.place), (1, 2));
+//! assert_eq!((error.fault(), error.place), (Some(cmk::Fault::NotUtf8), 2));
 //! assert_eq!(error.to_string(), "cmk: F1 not UTF-8 at byte 2");
 //! ```
 //!
@@ -86,13 +86,62 @@ extern "C" {
 /// Room for each line that `cmk_fault_text` puts.
 const LINE_ROOM: usize = 127;
 
+/// What the library returns if there is no output, by the numbers of include/cmk.h.
+#[derive(Clone, Copy, Debug, PartialEq, Eq, Hash)]
+#[non_exhaustive]
+#[repr(u32)]
+pub enum Fault {
+    /// The bytes aren't UTF-8. The place is the first byte that isn't part of a character.
+    NotUtf8 = 1,
+    /// The text is too long. The place is the limit of bytes.
+    TooLong = 2,
+    /// More quotes and list items than the limit enclose a line. The place is the line, counted from 1.
+    BlocksTooDeep = 3,
+    /// The inlines of a leaf nest deeper than the limit. The place is the leaf, counted from 1.
+    InlinesTooDeep = 4,
+    /// A refused allocation left no result.
+    NoMemory = 5,
+    /// The tree can't be written as source. The place is the number of the reason.
+    CannotSpell = 8,
+    /// An option is out of its range.
+    OutOfRange = 11,
+    /// The caller's room is too small, which no call of this crate returns.
+    NoRoom = 12,
+}
+
+impl Fault {
+    /// Every fault.
+    pub const ALL: [Fault; 8] = [
+        Fault::NotUtf8,
+        Fault::TooLong,
+        Fault::BlocksTooDeep,
+        Fault::InlinesTooDeep,
+        Fault::NoMemory,
+        Fault::CannotSpell,
+        Fault::OutOfRange,
+        Fault::NoRoom,
+    ];
+}
+
 /// Why there is no output. Its `Display` is the line that the program prints.
 #[derive(Clone, Copy, Debug, PartialEq, Eq)]
 pub struct Error {
-    /// What the library returned: 1 for bytes that aren't UTF-8, and so on, as include/cmk.h has it.
+    /// What the library returned, as [`Error::fault`] names it.
     pub number: u32,
     /// The byte, the line or the leaf of the fault, or the number of the reason why a tree can't be spelled.
     pub place: usize,
+}
+
+impl Error {
+    /// The fault with this number, or `None` if a newer library has returned one that isn't in this crate.
+    ///
+    /// ```
+    /// let error = cmk::rewrite("*a **b***", &cmk::Options::default()).unwrap_err();
+    /// assert_eq!(error.fault(), Some(cmk::Fault::CannotSpell));
+    /// ```
+    pub fn fault(&self) -> Option<Fault> {
+        Fault::ALL.into_iter().find(|it| *it as u32 == self.number)
+    }
 }
 
 impl fmt::Display for Error {
@@ -203,11 +252,11 @@ pub fn json(text: impl AsRef<[u8]>, options: &Options) -> Result<Text, Error> {
     called(cmk_json, text.as_ref(), options)
 }
 
-/// Plain source of the tree of a text without its definitions, as `cmk rewrite` writes it. A tree that can't be spelled is the error 8.
+/// Plain source of the tree of a text without its definitions, as `cmk rewrite` writes it. A tree that can't be spelled
+/// is the error [`Fault::CannotSpell`].
 ///
 /// ```
 /// assert_eq!(&*cmk::rewrite("a\n===\n", &cmk::Options::default()).unwrap(), "# a\n");
-/// assert_eq!(cmk::rewrite("*a **b***", &cmk::Options::default()).unwrap_err().number, 8);
 /// ```
 pub fn rewrite(text: impl AsRef<[u8]>, options: &Options) -> Result<Text, Error> {
     called(cmk_rewrite, text.as_ref(), options)
