@@ -10,10 +10,19 @@ import sys
 TOP = pathlib.Path(__file__).resolve().parent.parent
 sys.path.insert(0, str(TOP / "tools"))
 import build  # noqa: E402
+from files import sum_of  # noqa: E402, F401
 
 PROGRAM, ARCHIVE = TOP / "crates/cmk/out/cmk", TOP / "crates/cmk_c/out/libcmk_c.a"
 # Folders whose names a careless script or recipe takes apart.
 FOLDERS = ["a folder", "l'été"]
+
+# What can happen to a file.
+DAMAGES = {
+    "emptied": lambda content: b"",
+    "truncated": lambda content: content[: len(content) // 2],
+    "replaced": lambda content: b"#!/bin/sh\necho hello\n",
+    "flipped": lambda content: content[:-2] + bytes([content[-2] ^ 1]) + content[-1:],
+}
 
 
 class Points:
@@ -72,11 +81,13 @@ def build_archive(room):
 def copy_built(top):
     """Copies the repository with the program and the static library into a folder, as if `make` had built them there."""
     shutil.copytree(TOP, top, ignore=shutil.ignore_patterns(".git", "out", "dist", "target", "__pycache__"))
-    for made in (PROGRAM, ARCHIVE):
-        to = top / made.relative_to(TOP)
-        to.parent.mkdir()
-        shutil.copy(made, to)
-    (top / PROGRAM.relative_to(TOP)).with_name("built").write_text(f"{build.Kit().identity}\n")
+    kit, plan = build.Kit(), build.crates(*build.MADE)
+    sums = build.sums_of(plan, kit)
+    for target, from_ in {build.PROGRAM: PROGRAM, build.LIBRARY: ARCHIVE}.items():
+        made = build.Made(target, top)
+        made.folder.mkdir()
+        shutil.copy(from_, made.file)
+        made.mark(kit, sums[target], build.list_sources(top), {})
 
 
 def flags_of(environment):
