@@ -94,7 +94,8 @@ def copy_built(top):
         made = build.Made(target, top)
         made.folder.mkdir()
         shutil.copy(from_, made.file)
-        made.mark(kit, sums[target], build.list_sources(top), {})
+        made.mark(kit, sums[target], sum_of(made.file), {})
+        made.keep_list(build.list_sources(top))
 
 
 def flags_of(environment):

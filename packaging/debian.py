@@ -35,7 +35,7 @@ def changelog():
 
 
 def install(room, record):
-    """Installs what is built as Debian lays it out into a folder: stripped, and with packed manual pages. The record says what was built."""
+    """Installs what is built, if it is as recorded, as Debian lays it out into a folder: stripped, and with packed manual pages."""
     make("install", f"DESTDIR={room}", "PREFIX=/usr", f"LIBDIR=/{LIBRARIES}", "ZSHDIR=/usr/share/zsh/vendor-completions")
     proof.check(record, room / BUILT["all"])
     for flag, name in BUILT.items():

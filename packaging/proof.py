@@ -40,7 +40,7 @@ The last line of the prover on each crate:
 In these lines
 
   axioms=    counts the functions of C that were reached: that each meets its contract is assumed
-  threads=   names those by which the runtime that main gets could start threads or wait: HANDLES allows neither here
+  threads=   names those that the kit's code for threads and for waiting may call: HANDLES allows neither here
   =trusted   marks what wasn't checked again: the kit's logic, and the libraries with their statements, which other checks proved
 
 To repeat this with the same kit, in the sources of this version:

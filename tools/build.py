@@ -141,8 +141,8 @@ def sums_of(plan, kit):
 
 
 class Made:
-    """A target in its folder. The file `built` beside it has on a line each the kit, the checksum of the sources, that of the target, and the
-    verdicts on the crates. The file `sources` has what tools/sources prints."""
+    """A target in its folder. The file `built` beside it has on a line each the kit, the checksum of the sources, that of the target, and
+    the verdicts on the crates. The file `sources` has what tools/sources prints."""
 
     def __init__(self, target, top=TOP):
         self.target, self.top, self.folder = target, top, top / "crates" / target / "out"
@@ -183,41 +183,44 @@ class Made:
             it.unlink(missing_ok=True)
 
     def take(self, store, checksum):
-        """Copies the target from the store."""
+        """Copies the target from the store, and returns its own checksum."""
         place, new = store.place(self.target, checksum), self.folder / "new"
         with STARTING:
             shutil.copy(place / self.file.name, new)
-        if files.sum_of(new) != files.sums_in(place)[self.file.name]:
+        own = files.sums_in(place)[self.file.name]
+        if files.sum_of(new) != own:
             raise Failed(f"{place} was damaged while {self.target} was taken from it: run this again")
         files.settle(new)
         self.forget()
         new.replace(self.file)
+        return own
 
-    def mark(self, kit, checksum, listed, verdicts=None):
-        """Marks the target as built by this kit from the sources with this checksum, which were listed before they were read. Without verdicts,
-        those that are there stay."""
-        kept = self.lines()[3:] if verdicts is None else [f"{name} {it}" for name, it in verdicts.items()]
-        lines = [kit.identity, checksum, files.sum_of(self.file), *kept]
-        if lines != self.lines():
-            files.write(self.built, "".join(f"{it}\n" for it in lines))
-        present = list_sources(self.top)
-        if self.target == PROGRAM and without_program(present) == without_program(listed):
-            files.write(self.sources, present)
+    def mark(self, kit, checksum, own, verdicts):
+        """Marks the target, which has a checksum of its own, as built by this kit from the sources with this checksum."""
+        lines = [kit.identity, checksum, own, *(f"{name} {it}" for name, it in verdicts.items())]
+        files.write(self.built, "".join(f"{it}\n" for it in lines).encode())
+
+    def keep_list(self, listed):
+        """Keeps the list of the present sources and the program, if the sources are as they were listed before they were read."""
+        if self.target == PROGRAM and not self.is_damaged():
+            present = list_sources(self.top)
+            if without_program(present) == without_program(listed):
+                files.write(self.sources, present)
 
 
 def list_sources(top=TOP):
     """Returns what tools/sources prints. Any file that changes afterwards gets another time, because the clock has moved on."""
     words = {"cwd": top, "stdin": subprocess.DEVNULL, "stdout": subprocess.PIPE}
     with STARTING:
-        listed = subprocess.run(["sh", "tools/sources"], check=False, **words).stdout.decode(errors="surrogateescape")
-    newest = max((float(it.split(" ", 3)[2]) for it in listed.splitlines()), default=0)
+        listed = subprocess.run(["sh", "tools/sources"], check=False, **words).stdout
+    newest = max(map(float, re.findall(rb"(?m)^\d+ [\d.]+ ([\d.]+) ", listed)), default=0)
     if newest > time.time() - TICK:
         time.sleep(TICK)
     return listed
 
 
 def without_program(listed):
-    return [it for it in listed.splitlines() if not it.endswith(f" crates/{PROGRAM}/out/{MADE[PROGRAM]}")]
+    return re.sub(rb"(?m)^.* crates/cmk/out/cmk$", b"", listed)
 
 
 def functions_in(verdict):
@@ -323,8 +326,8 @@ class Store:
         return self.folder / f"{name}-{checksum}"
 
     def has(self, name, checksum, names=None):
-        """Returns whether the store has an entry, and these files of it, or all, are as they were written. One that is damaged is reported and
-        removed. One without checksums, as an earlier version left it, counts for nothing."""
+        """Returns whether the store has an entry, and these files of it, or all, are as they were written. One that is damaged is reported
+        and removed. One without checksums, as an earlier version left it, counts for nothing."""
         place = self.place(name, checksum)
         if not (place / files.SUMS).exists():
             return False
@@ -474,8 +477,8 @@ class Build:
         self.took = self.expected = 0
 
     def lacks(self, name, targets):
-        """Returns whether a crate has to be built, once it is known which of those above it have to. What they are linked against is checked
-        when they start."""
+        """Returns whether a crate has to be built, once it is known which of those above it have to. What they are linked against is
+        checked when they start."""
         if any(self.stands_on(it, name) for it in self.waiting):
             return not self.store.has(name, self.sums[name], [])
         if name in targets:
@@ -587,7 +590,8 @@ def run_rt(target, kit, store):
 
 
 def obtain(targets, plan, sums, kit, store):
-    """Has everything proved that the targets depend on, and returns whether the store has them. Otherwise rt has built them in their folders."""
+    """Has everything proved that the targets depend on, and returns whether the store has them. Otherwise rt has built them in their
+    folders."""
     build = Build(targets, plan, sums, kit, store)
     is_developed = not store.with_verdicts and all(it.keeps_work() for it in plan.values() if it.name not in MADE)
     lacking = None if is_developed or not build.total else kit.lacking()
@@ -622,13 +626,12 @@ def prove_in(store, targets, record):
                 made.forget()
     is_kept = stale and obtain(stale, plan, sums, kit, store)
     for made in map(Made, targets):
-        verdicts = None
+        checksum = sums[made.target]
         with made.locked():
             if made.target in stale:
-                verdicts = store.verdicts(crates(made.target), sums) if is_kept else {}
-            if verdicts:
-                made.take(store, sums[made.target])
-            made.mark(kit, sums[made.target], listed, verdicts)
+                own = made.take(store, checksum) if is_kept else files.sum_of(made.file)
+                made.mark(kit, checksum, own, store.verdicts(crates(made.target), sums) if is_kept else {})
+            made.keep_list(listed)
     if record:
         built = (f"{files.sum_of(it.file)}  {it.file.relative_to(TOP)}" for it in map(Made, targets))
         record.write_text("\n".join([kit.identity, *(f"{name} {it}" for name, it in store.verdicts(plan, sums).items()), *built, ""]))
@@ -650,7 +653,7 @@ def prove(targets, record=None, anew=False):
 def look():
     """Raises why what is built can't be used: something is absent or damaged."""
     for made in map(Made, MADE):
-        if not os.access(made.file, os.R_OK):
+        if not os.access(made.file, os.X_OK if made.target == PROGRAM else os.R_OK):
             raise Failed(f"{made.file.relative_to(TOP)} isn't built: run 'make'")
         if made.is_damaged():
             raise Failed(f"{made.file.relative_to(TOP)} isn't what was built there: run 'make'")

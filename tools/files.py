@@ -70,10 +70,10 @@ def seal(folder):
         list(pool.map(settle, [folder, *folder.rglob("*")]))
 
 
-def write(file, text):
-    """Writes a text into a file, which at each moment has either its old text or the new one."""
+def write(file, content):
+    """Writes bytes into a file, which at each moment has either the old ones or the new ones."""
     new = file.with_name(f"{file.name}.new")
-    new.write_text(text)
+    new.write_bytes(content)
     new.replace(file)
 
 

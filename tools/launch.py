@@ -69,19 +69,19 @@ class Sources:
 
     def proved(self):
         """Returns the proved program, if it is in its folder or in the store, or None."""
-        made, verdicts = build.Made(self.name), None
+        made = build.Made(self.name)
         with made.locked():
             if not made.is_of(self.kit, self.checksum):
                 if not self.store.has(self.name, self.checksum):
                     return None
                 build.tell(f"these sources are proved already: taking {self.name} from {self.store.folder}")
-                verdicts = self.store.verdicts(self.plan, self.sums)
-                made.take(self.store, self.checksum)
+                own = made.take(self.store, self.checksum)
+                made.mark(self.kit, self.checksum, own, self.store.verdicts(self.plan, self.sums))
             listed = build.list_sources()
             # In a folder that can't be written to, the program is looked for in each run.
             with contextlib.suppress(OSError):
                 if build.sums_of(self.plan, self.kit) == self.sums:
-                    made.mark(self.kit, self.checksum, listed, verdicts)
+                    made.keep_list(listed)
         return made.file
 
     def wait(self):
