@@ -5,7 +5,8 @@
 #   make install PREFIX=/usr/local DESTDIR= installs them, with the header, the man pages, the completions and cmk.pc
 #   make uninstall PREFIX= DESTDIR=         removes all of these
 #   make dist, make deb, make wheel         write a release's archive, its packages for Debian, its wheel for Python into dist/
-#   make verify DIST=FILE                   compares a file of a release, or its SHA256SUMS, with what is made here
+#   make verify DIST=FILE                   proves everything again, and compares a file of a release, or its SHA256SUMS, with what is made
+#   make verify DIST=FILE CACHE=yes         compares without proving again what the cache has
 #
 # With BUILD= the program and libcmk_c.a must be built already; nothing is proved. The merge gate is .ci/run.
 
@@ -22,6 +23,7 @@ CC = cc
 AR = ar
 INSTALL = install
 BUILD = all
+CACHE =
 
 VERSION := $(shell sed -n 's/^.define CMK_VERSION "\(.*\)"$$/\1/p' include/cmk.h)
 SONAME := libcmk.so.$(firstword $(subst ., ,$(VERSION)))
@@ -45,11 +47,12 @@ endif
 .NOTPARALLEL:
 
 all: $(OUT)/libcmk.a $(OUT)/$(SHARED) $(OUT)/cmk.pc
+	@$(if $(BUILD),tools/build.py --summary)
 
 # Only the build knows whether the program and the crate's library are current, so each make asks it, and links the libraries again. If
 # nothing has changed, that takes a second.
 proved:
-	@$(if $(BUILD),tools/build.py,test -x $(PROGRAM) -a -r $(CRATE))
+	@tools/build.py $(if $(BUILD),,--built)
 
 # One archive of the crate and the functions for memory.
 $(OUT)/libcmk.a: proved
@@ -99,16 +102,19 @@ uninstall:
 	rm -f $(call installed,$(MANDIR)/man1/cmk.1) $(call installed,$(MANDIR)/man3/cmk.3)
 	rm -f $(call installed,$(BASHDIR)/cmk) $(call installed,$(ZSHDIR)/_cmk) $(call installed,$(FISHDIR)/cmk.fish)
 
-# What the prover said of each crate, for PROOF.txt.
+# What the prover said of each crate, and the checksums of what is built, for PROOF.txt.
+recorded = mkdir -p $(OUT) && $(if $(BUILD),tools/build.py --record $(RECORD) $(1),test -r $(RECORD))
 record:
-	@mkdir -p $(OUT)
-	@$(if $(BUILD),tools/build.py --record $(RECORD),test -r $(RECORD))
+	@$(call recorded)
 
 dist deb wheel: record
 	@packaging/release.py --record $(RECORD) $@
 
-verify: record
-	@packaging/release.py --record $(RECORD) verify $(if $(DIST),$(call quoted,$(DIST)))
+verify:
+	@test -r $(call quoted,$(DIST)) || { echo 'make verify needs DIST=FILE: a file of a release, or its SHA256SUMS' >&2; exit 2; }
+	@$(if $(filter yes,$(CACHE)),echo 'CACHE=yes: what the cache has is not proved again')
+	@$(call recorded,$(if $(filter yes,$(CACHE)),,--anew))
+	@packaging/release.py --record $(RECORD) verify $(call quoted,$(DIST))
 
 # The proved program and library stay.
 clean:

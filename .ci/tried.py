@@ -10,10 +10,19 @@ import sys
 TOP = pathlib.Path(__file__).resolve().parent.parent
 sys.path.insert(0, str(TOP / "tools"))
 import build  # noqa: E402
+from files import sum_of  # noqa: E402, F401
 
 PROGRAM, ARCHIVE = TOP / "crates/cmk/out/cmk", TOP / "crates/cmk_c/out/libcmk_c.a"
 # Folders whose names a careless script or recipe takes apart.
 FOLDERS = ["a folder", "l'été"]
+
+# What can happen to a file: the name, and what becomes of the first half of its bytes and of the others.
+DAMAGES = {
+    "emptied": lambda first, others: b"",
+    "truncated": lambda first, others: first,
+    "replaced": lambda first, others: b"#!/bin/sh\necho hello\n",
+    "with a flipped bit": lambda first, others: first + bytes([others[0] ^ 1]) + others[1:],
+}
 
 
 class Points:
@@ -47,6 +56,13 @@ class Run:
         return self.status, self.wrote, self.said
 
 
+def damage(file, name):
+    """Damages a file in one of these ways."""
+    content = file.read_bytes()
+    half = len(content) // 2
+    file.write_bytes(DAMAGES[name](content[:half], content[half:]))
+
+
 def is_current(made):
     """Returns whether no source is newer than what was made of it."""
     sources = [TOP / "crates.txt", *(it for part in build.PARTS for it in TOP.glob(f"crates/*/{part}/**/*"))]
@@ -72,11 +88,14 @@ def build_archive(room):
 def copy_built(top):
     """Copies the repository with the program and the static library into a folder, as if `make` had built them there."""
     shutil.copytree(TOP, top, ignore=shutil.ignore_patterns(".git", "out", "dist", "target", "__pycache__"))
-    for made in (PROGRAM, ARCHIVE):
-        to = top / made.relative_to(TOP)
-        to.parent.mkdir()
-        shutil.copy(made, to)
-    (top / PROGRAM.relative_to(TOP)).with_name("built").write_text(f"{build.Kit().identity}\n")
+    kit, plan = build.Kit(), build.crates(*build.MADE)
+    sums = build.sums_of(plan, kit)
+    for target, from_ in {build.PROGRAM: PROGRAM, build.LIBRARY: ARCHIVE}.items():
+        made = build.Made(target, top)
+        made.folder.mkdir()
+        shutil.copy(from_, made.file)
+        made.mark(kit, sums[target], sum_of(made.file), {})
+        made.keep_list(build.list_sources(top))
 
 
 def flags_of(environment):

@@ -34,9 +34,10 @@ def changelog():
     return f"wuravina ({REVISION}) unstable; urgency=medium\n\n  * Version {VERSION}.\n\n -- {maintainer}  {when}\n"
 
 
-def install(room):
-    """Installs what is built as Debian lays it out into a folder: stripped, and with packed manual pages."""
+def install(room, record):
+    """Installs what is built, if it is as recorded, as Debian lays it out into a folder: stripped, and with packed manual pages."""
     make("install", f"DESTDIR={room}", "PREFIX=/usr", f"LIBDIR=/{LIBRARIES}", "ZSHDIR=/usr/share/zsh/vendor-completions")
+    proof.check(record, room / BUILT["all"])
     for flag, name in BUILT.items():
         run("strip", f"--strip-{flag}", "--remove-section=.comment", "--remove-section=.note", "--enable-deterministic-archives", room / name)
     (room / BUILT["unneeded"]).chmod(0o644)
@@ -91,7 +92,7 @@ def write_into(folder, record):
     with tempfile.TemporaryDirectory() as temporary:
         room = pathlib.Path(temporary)
         installed, roots = room / "installed", room / "debian"
-        install(installed)
+        install(installed, record)
         text = proof.text(record, {it: installed / it for it in BUILT.values()})
         write(roots / "control", (HERE / "control").read_bytes())
         write(roots / "changelog", changelog())

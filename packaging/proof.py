@@ -1,15 +1,15 @@
 """PROOF.txt: what was proved of a release, by what, and how to repeat it."""
 
 import hashlib
-import re
 import sys
 
 from common import TOP, VERSION, Failed
 
-sys.path.append(str(TOP / "tools"))
+sys.path.insert(0, str(TOP / "tools"))
+import build  # noqa: E402
 import contracts  # noqa: E402
+from files import sum_of  # noqa: E402
 
-PARTS = ("src", "specs", "proofs")
 # The calls and laws whose contracts are the promises in README.md, "Prove it yourself", and those of the library for C.
 PROMISES = """
     cm_tool::read cm_tool::convert cm_tool::rewrite cm_tool::text_is_no_markup cm_tool::texts_from_strangers
@@ -37,6 +37,12 @@ The last line of the prover on each crate:
 
 {verdicts}
 
+In these lines
+
+  axioms=    counts the functions of C that were reached: that each meets its contract is assumed
+  threads=   names those that the kit's code for threads and for waiting may call: HANDLES allows neither here
+  =trusted   marks what wasn't checked again: the kit's logic, and the libraries with their statements, which other checks proved
+
 To repeat this with the same kit, in the sources of this version:
 
   make verify DIST=cmk-{version}-linux-x86_64.tar.xz
@@ -49,8 +55,8 @@ docs/proved.md says what all of them mean, what is only tested, and what is trus
 
 def sum_of_sources(crate):
     """Returns the sum of the files of a crate, as the command in PROOF.txt prints it."""
-    files = [it.relative_to(crate).as_posix() for part in PARTS for it in (crate / part).rglob("*") if it.is_file()]
-    lines = (f"{hashlib.sha256((crate / it).read_bytes()).hexdigest()}  {it}\n" for it in sorted(files, key=str.encode))
+    files = [it.relative_to(crate).as_posix() for part in build.PARTS for it in (crate / part).rglob("*") if it.is_file()]
+    lines = (f"{sum_of(crate / it)}  {it}\n" for it in sorted(files, key=str.encode))
     return hashlib.sha256("".join(lines).encode()).hexdigest()
 
 
@@ -61,20 +67,36 @@ def statement(path):
     return f"  {path}, {part.file.relative_to(TOP)}:{part.line}\n\n{lines}"
 
 
+def parts_of(record):
+    """Returns the kit, the verdicts by crates, and the checksums by files, of a record of tools/build.py."""
+    kit, *lines = record.read_text().splitlines()
+    verdicts = dict(it.split(" ", 1) for it in lines if "  " not in it)
+    return kit, verdicts, dict(reversed(it.split("  ", 1)) for it in lines if "  " in it)
+
+
+def check(record, program):
+    """Raises what isn't as the record has it: the program that was installed, or the crate's library, of which both others were linked."""
+    _, _, sums = parts_of(record)
+    library = build.Made(build.LIBRARY).file
+    for file, made in ((program, build.Made(build.PROGRAM).file), (library, library)):
+        if sum_of(file) != sums.get(str(made.relative_to(TOP))):
+            raise Failed(f"{made.relative_to(TOP)} isn't what was proved")
+
+
 def text(record, files):
     """Returns PROOF.txt for a record of tools/build.py and the files that were built, each by its name."""
-    kit, *lines = record.read_text().splitlines()
-    verdicts = dict(it.split(" ", 1) for it in lines)
-    counts = {name: re.match(r"logic=proved functions=(\d+) ", f"{it} ") for name, it in verdicts.items()}
-    if not all(counts.values()):
-        raise Failed(f"{record} has a crate that isn't proved")
-    crates = [f"  {name:<12}{counts[name][1]:>5}  {sum_of_sources(TOP / 'crates' / name)}" for name in verdicts]
-    crates.append(f"  {'all':<12}{sum(int(it[1]) for it in counts.values()):>5}")
+    kit, verdicts, _ = parts_of(record)
+    try:
+        counts = {name: build.functions_in(it) for name, it in verdicts.items()}
+    except build.Failed as why:
+        raise Failed(f"{record}: {why}") from why
+    crates = [f"  {name:<12}{count:>5}  {sum_of_sources(TOP / 'crates' / name)}" for name, count in counts.items()]
+    crates.append(f"  {'all':<12}{sum(counts.values()):>5}")
     return FORM.format(
         version=VERSION,
         kit=kit,
         crates="\n".join(crates),
-        files="\n".join(f"  {hashlib.sha256(it.read_bytes()).hexdigest()}  {name}" for name, it in files.items()),
+        files="\n".join(f"  {sum_of(it)}  {name}" for name, it in files.items()),
         verdicts="\n".join(f"  {name}: {it}" for name, it in verdicts.items()),
         contracts="\n".join(map(statement, PROMISES)),
     )

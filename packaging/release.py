@@ -14,7 +14,6 @@ RELEASED is one of the files, or SHA256SUMS with or without them beside it. veri
 """
 
 import argparse
-import hashlib
 import os
 import pathlib
 import sys
@@ -28,14 +27,11 @@ import debian  # noqa: E402
 import proof  # noqa: E402
 import wheel  # noqa: E402
 from common import TOP, Failed, run, set_epoch, write  # noqa: E402
+from files import sum_of  # noqa: E402
 
 SUMS, PROOF = "SHA256SUMS", "PROOF.txt"
 # What is made of each kind, by the ends of the files' names.
 KINDS = {"dist": (".tar.xz", PROOF), "deb": (".deb",), "wheel": (".whl",)}
-
-
-def sum_of(file):
-    return hashlib.sha256(file.read_bytes()).hexdigest()
 
 
 def make_release(kinds, folder, record):
@@ -43,6 +39,7 @@ def make_release(kinds, folder, record):
     folder.mkdir(parents=True, exist_ok=True)
     with tempfile.TemporaryDirectory() as room:
         prefix = archive.install(pathlib.Path(room))
+        proof.check(record, prefix / "bin/cmk")
         text = proof.text(record, {it: prefix / it for it in archive.BUILT})
         write(folder / PROOF, text)
         makers = {

@@ -1,14 +1,20 @@
 #!/usr/bin/env python3
 """Proves and builds the program cmk and the static library of cmk_c, or one of the two.
 
-  tools/build.py [--record FILE] [cmk] [cmk_c]
+  tools/build.py [--record FILE [--anew]] [cmk] [cmk_c]
+  tools/build.py --built
+  tools/build.py --summary
 
 It proves each crate from nothing, and builds it for the crates above without its proofs. A proved crate is kept in ~/.cache/cmk, or in
 $XDG_CACHE_HOME/cmk, under a checksum of everything it was made from. So an interrupted build resumes at the last finished crate, and
 another copy of the same sources proves nothing again. Anyone who can write to that folder is trusted. Messages go to standard error.
 
-With --record, FILE gets the name of the kit, and on a line each the crates with the prover's verdicts, which are kept too. A crate that was
-kept without its verdict is proved again.
+Each kept crate has the checksums of its files. They are compared wherever a file is taken, run or linked against, and so are those of the
+program and the library in their folders. What differs is reported, removed and built again.
+
+With --record, FILE gets the name of the kit; on a line each the crates with the prover's verdicts, which are kept too; and the checksums of
+what is built. With --anew the cache is left alone, and everything is proved. --built proves nothing, and compares what is built with its
+checksums. --summary prints how many crates and functions were proved.
 
 Where `rt check` has left its work in each library, `rt run` builds over that: a developer's next program takes what has changed, and no
 library is kept for each edit. A kit without the options that are needed here has `rt run` prove the crates one after another.
@@ -27,6 +33,8 @@ import sys
 import tempfile
 import threading
 import time
+
+import files
 
 TOP = pathlib.Path(__file__).resolve().parent.parent
 PROGRAM, LIBRARY = "cmk", "cmk_c"
@@ -59,7 +67,7 @@ ROOM = 1536 * 1024
 # The store keeps this many entries of each name, each with the prover's last line on it.
 KEPT = 2
 VERDICT = "verdict"
-# A file's modification time may lag behind the clock by this many seconds.
+# The times of a file may lag behind the clock by this many seconds.
 TICK = 0.02
 # A program can't be run while it is open for writing, and a process that starts has open what any thread writes. So this is held where a
 # process starts, and where a program is copied.
@@ -91,19 +99,16 @@ class Crate:
     def sum(self, kit, below):
         """Returns the checksum of everything the crate is made from: the kit, its sources, and the crates below, given by their checksums."""
         made_of = hashlib.sha256(repr((kit.identity, self.name, self.of_kit, below)).encode())
-        for file in sorted(it for part in PARTS for it in (self.folder / part).rglob("*") if it.is_file()):
-            made_of.update(repr((str(file.relative_to(self.folder)), file.read_bytes())).encode())
+        for path in sorted(it for part in PARTS for it in files.paths_below(self.folder / part)):
+            content = pathlib.Path(path).read_bytes()
+            made_of.update(repr((os.path.relpath(path, self.folder), len(content))).encode())
+            made_of.update(content)
         return made_of.hexdigest()[:32]
 
     def keeps_work(self):
         """Returns whether `rt check` has left work that makes the next check short."""
         kept = self.folder / "out/incremental"
         return kept.is_dir() and any(kept.iterdir())
-
-
-def made_of(target):
-    """Returns the path of the file that is built of a target."""
-    return TOP / "crates" / target / "out" / MADE[target]
 
 
 def crates(*targets):
@@ -133,6 +138,97 @@ def sums_of(plan, kit):
     for crate in plan.values():
         sums[crate.name] = crate.sum(kit, [sums[it] for it in crate.below])
     return sums
+
+
+class Made:
+    """A target in its folder. The file `built` beside it has on a line each the kit, the checksum of the sources, that of the target, and
+    the verdicts on the crates. The file `sources` has what tools/sources prints."""
+
+    def __init__(self, target, top=TOP):
+        self.target, self.top, self.folder = target, top, top / "crates" / target / "out"
+        self.file, self.built, self.sources = (self.folder / it for it in (MADE[target], "built", "sources"))
+
+    def locked(self):
+        """Returns the lock that a run holds while it changes what is in the folder."""
+        self.folder.mkdir(parents=True, exist_ok=True)
+        return files.locked(self.folder / "lock")
+
+    def lines(self):
+        """Returns the lines of `built`."""
+        return self.built.read_text(errors="replace").splitlines() if self.built.exists() else []
+
+    def verdicts(self):
+        """Returns the prover's last lines on the crates that the target was built of."""
+        return dict(it.split(" ", 1) for it in self.lines()[3:])
+
+    def is_damaged(self):
+        """Returns whether the target isn't what was built there. Where nothing says what that was, it isn't damaged."""
+        lines = self.lines()
+        return len(lines) > 2 and not (self.file.exists() and files.sum_of(self.file) == lines[2])
+
+    def is_of(self, kit, checksum):
+        """Returns whether the target was built by this kit from the sources with this checksum. A damaged one is reported and removed."""
+        lines = self.lines()
+        if len(lines) < 3 or lines[:2] != [kit.identity, checksum] or not self.file.exists():
+            return False
+        if self.is_damaged():
+            tell(f"{self.file.relative_to(self.top)} is damaged, so it is removed")
+            self.forget()
+            self.file.unlink()
+        return self.file.exists()
+
+    def forget(self):
+        """Removes what is known of the target."""
+        for it in (self.sources, self.built):
+            it.unlink(missing_ok=True)
+
+    def take(self, store, checksum):
+        """Copies the target from the store, and returns its own checksum."""
+        place, new = store.place(self.target, checksum), self.folder / "new"
+        with STARTING:
+            shutil.copy(place / self.file.name, new)
+        own = files.sums_in(place)[self.file.name]
+        if files.sum_of(new) != own:
+            raise Failed(f"{place} was damaged while {self.target} was taken from it: run this again")
+        files.settle(new)
+        self.forget()
+        new.replace(self.file)
+        return own
+
+    def mark(self, kit, checksum, own, verdicts):
+        """Marks the target, which has a checksum of its own, as built by this kit from the sources with this checksum."""
+        lines = [kit.identity, checksum, own, *(f"{name} {it}" for name, it in verdicts.items())]
+        files.write(self.built, "".join(f"{it}\n" for it in lines).encode())
+
+    def keep_list(self, listed):
+        """Keeps the list of the present sources and the program, if the sources are as they were listed before they were read."""
+        if self.target == PROGRAM and not self.is_damaged():
+            present = list_sources(self.top)
+            if without_program(present) == without_program(listed):
+                files.write(self.sources, present)
+
+
+def list_sources(top=TOP):
+    """Returns what tools/sources prints. Any file that changes afterwards gets another time, because the clock has moved on."""
+    words = {"cwd": top, "stdin": subprocess.DEVNULL, "stdout": subprocess.PIPE}
+    with STARTING:
+        listed = subprocess.run(["sh", "tools/sources"], check=False, **words).stdout
+    newest = max(map(float, re.findall(rb"(?m)^\d+ [\d.]+ ([\d.]+) ", listed)), default=0)
+    if newest > time.time() - TICK:
+        time.sleep(TICK)
+    return listed
+
+
+def without_program(listed):
+    return re.sub(rb"(?m)^.* crates/cmk/out/cmk$", b"", listed)
+
+
+def functions_in(verdict):
+    """Returns how many functions were proved, by the prover's last line on a crate."""
+    found = re.match(r"logic=proved functions=(\d+) ", verdict)
+    if not found:
+        raise Failed(f"this is no verdict: {verdict}")
+    return int(found[1])
 
 
 class Kit:
@@ -194,19 +290,20 @@ class Kit:
 
 class Store:
     """What was built on this machine: a folder for each crate, named after it and its checksum. If verdicts are asked for, a crate without
-    one counts for nothing."""
+    one counts for nothing. The folder is that of the user, or else, as for what is built anew, one in the repository."""
 
-    def __init__(self, with_verdicts=False):
+    def __init__(self, with_verdicts=False, anew=False):
         self.with_verdicts = with_verdicts
         cache = os.environ.get("XDG_CACHE_HOME") or os.path.expanduser("~/.cache")
-        own = made_of(PROGRAM).parent / "proved"
-        for folder in ([pathlib.Path(cache) / "cmk"] if os.path.isabs(cache) else []) + [own]:
+        out = Made(PROGRAM).folder
+        users = [pathlib.Path(cache) / "cmk"] if os.path.isabs(cache) else []
+        for folder in [out / "anew"] if anew else [*users, out / "proved"]:
             with contextlib.suppress(OSError):
                 folder.mkdir(parents=True, exist_ok=True)
                 (folder / "lock").open("a").close()
                 self.folder, self.locks = folder, {}
                 return
-        raise Failed(f"nothing can be written to {own}")
+        raise Failed(f"nothing can be written to {folder}")
 
     def wait(self, name, what):
         """Waits until no other run holds the lock with this name. The kernel releases a lock when its run ends, no matter how."""
@@ -228,23 +325,54 @@ class Store:
     def place(self, name, checksum):
         return self.folder / f"{name}-{checksum}"
 
-    def has(self, name, checksum):
+    def has(self, name, checksum, names=None):
+        """Returns whether the store has an entry, and these files of it, or all, are as they were written. One that is damaged is reported
+        and removed. One without checksums, as an earlier version left it, counts for nothing."""
         place = self.place(name, checksum)
-        return (place / VERDICT).is_file() if self.with_verdicts else place.is_dir()
+        if not (place / files.SUMS).exists():
+            return False
+        if files.is_whole(place, names):
+            return True
+        with self.changing():
+            # Another run may have removed or replaced it meanwhile.
+            if (place / files.SUMS).exists() and not files.is_whole(place, names):
+                tell(f"{place} is damaged, so it is removed")
+                self.remove(place)
+            return (place / files.SUMS).exists()
 
     def verdict(self, name, checksum):
         """Returns the prover's last line on a crate."""
         return (self.place(name, checksum) / VERDICT).read_text().strip()
 
+    def verdicts(self, plan, sums):
+        """Returns the prover's last lines on those crates of a plan that the store has."""
+        return {it: self.verdict(it, sums[it]) for it in plan if self.has(it, sums[it], [VERDICT])}
+
     def keep(self, made, name, checksum):
-        """Moves a folder into the store, which keeps the last few of each name. One that is there already only gets the verdict."""
+        """Moves a folder into the store, which keeps the last few of each name. It is on the disk before it has its name."""
+        files.seal(made)
         place = self.place(name, checksum)
-        if place.is_dir():
-            shutil.copy2(made / VERDICT, place)
-            return
-        made.rename(place)
-        for old in sorted(self.folder.glob(f"{name}-*"), key=lambda it: it.stat().st_mtime)[:-KEPT]:
-            shutil.rmtree(old, ignore_errors=True)
+        with self.changing():
+            if place.exists():
+                self.remove(place)
+            made.rename(place)
+            files.settle(self.folder)
+            for old in sorted(self.folder.glob(f"{name}-*"), key=lambda it: it.stat().st_mtime)[:-KEPT]:
+                self.remove(old)
+
+    def changing(self):
+        """Returns a lock for a moment in which entries come and go."""
+        return files.locked(self.folder / "changing")
+
+    def remove(self, place):
+        """Removes an entry, which loses its name first, so that no run finds a part of it."""
+        with self.room("removed") as room:
+            place.rename(pathlib.Path(room) / place.name)
+
+    def empty(self):
+        """Removes all entries."""
+        for it in self.folder.glob("*-*"):
+            self.remove(it)
 
 
 class Processes:
@@ -338,19 +466,34 @@ class Build:
 
     def __init__(self, targets, plan, sums, kit, store):
         self.plan, self.sums, self.kit, self.store = plan, sums, kit, store
-        needed = plan if store.with_verdicts else crates(*(it for it in targets if not store.has(it, sums[it])))
-        self.waiting = [it for it in plan if it in needed and not store.has(it, sums[it])]
+        self.waiting = []
+        for name in reversed(plan):
+            if self.lacks(name, targets):
+                self.waiting.insert(0, name)
         self.total = len(self.waiting)
         self.running = {}
         self.processors = len(os.sched_getaffinity(0))
         # The seconds that the finished crates took, here and on the last machine.
         self.took = self.expected = 0
 
+    def lacks(self, name, targets):
+        """Returns whether a crate has to be built, once it is known which of those above it have to. What they are linked against is
+        checked when they start."""
+        if any(self.stands_on(it, name) for it in self.waiting):
+            return not self.store.has(name, self.sums[name], [])
+        if name in targets:
+            return not self.store.has(name, self.sums[name])
+        return self.store.with_verdicts and not self.store.has(name, self.sums[name], [VERDICT])
+
     def is_kept(self, name):
         return name not in self.waiting and name not in self.running
 
     def stands_on(self, name, other):
         return any(it == other or self.stands_on(it, other) for it in self.plan[name].below)
+
+    def libraries(self, name):
+        """Returns the libraries that a crate is linked against."""
+        return [it for it in self.plan if self.stands_on(name, it)]
 
     def chains(self, seconds):
         """Returns for each crate the time of the longest chain that starts with it and goes upwards, given the seconds of each crate."""
@@ -380,7 +523,7 @@ class Build:
         """Returns the crates that wait for no other, in the order in which they start: those at the start of the longest chains first. Crates
         that hold up less than those which aren't ready yet are a list of their own: they start on processors that would be idle."""
         chains = self.chains({name: 0 if self.is_kept(name) else crate.seconds for name, crate in self.plan.items()})
-        ready = [it for it in self.waiting if all(self.is_kept(below) for below in self.plan[it].below)]
+        ready = [it for it in self.waiting if all(self.is_kept(below) for below in self.libraries(it))]
         ready.sort(key=chains.get, reverse=True)
         longest = max((chains[it] for it in self.waiting if it not in ready), default=0)
         return [it for it in ready if chains[it] >= longest], [it for it in ready if chains[it] < longest]
@@ -392,7 +535,11 @@ class Build:
                 jobs = self.jobs(name, len(ready) - at)
                 if not jobs:
                     return
-                libraries = {it: self.store.place(it, self.sums[it]) for it in self.plan if self.stands_on(name, it)}
+                below = self.libraries(name)
+                if damaged := [it for it in below if not self.store.has(it, self.sums[it])]:
+                    self.waiting, self.total = [*damaged, *self.waiting], self.total + len(damaged)
+                    return
+                libraries = {it: self.store.place(it, self.sums[it]) for it in below}
                 steps = self.kit.steps(self.plan[name], libraries, jobs, work / name)
                 self.waiting.remove(name)
                 self.running[name] = Making(self.plan[name], jobs, steps, processes, work / name)
@@ -442,36 +589,13 @@ def run_rt(target, kit, store):
             time.sleep(0.1)
 
 
-def take(target, checksum, store):
-    """Copies a target from the store into its folder."""
-    made = made_of(target)
-    new = made.with_name("new")
-    with STARTING:
-        shutil.copy2(store.place(target, checksum) / MADE[target], new)
-    new.replace(made)
-
-
-def mark(target, checksum, kit, since):
-    """Marks a target as built from the sources with this checksum, which were read after the time `since`. It gets that time, so that
-    each source changed later is newer."""
-    made = made_of(target)
-    (made.parent / "built").write_text(f"{kit.identity}\n{checksum}\n")
-    os.utime(made, (since, since))
-
-
-def is_built(target, checksum, kit):
-    """Returns whether a target is in its folder, built from the sources with this checksum."""
-    made = made_of(target)
-    built = made.parent / "built"
-    return made.exists() and built.exists() and built.read_text() == f"{kit.identity}\n{checksum}\n"
-
-
 def obtain(targets, plan, sums, kit, store):
-    """Puts the targets into their folders: from the store, once everything they depend on is proved."""
+    """Has everything proved that the targets depend on, and returns whether the store has them. Otherwise rt has built them in their
+    folders."""
     build = Build(targets, plan, sums, kit, store)
     is_developed = not store.with_verdicts and all(it.keeps_work() for it in plan.values() if it.name not in MADE)
     lacking = None if is_developed or not build.total else kit.lacking()
-    what = "what has changed" if all(made_of(it).exists() for it in targets) else "every function"
+    what = "every function" if build.total == len(plan) else "what isn't proved yet"
     if not build.total:
         tell(f"these sources are proved already: taking {' and '.join(targets)} from {store.folder}")
     elif lacking and store.with_verdicts:
@@ -481,32 +605,68 @@ def obtain(targets, plan, sums, kit, store):
         tell(f"proving {what} with rt, {why}")
         for target in targets:
             run_rt(target, kit, store)
-        return
+        return False
     else:
         tell(f"proving {what}: about {minutes(build.left())}")
         build.run()
-    for target in targets:
-        take(target, sums[target], store)
+    return True
 
 
-def prove(targets, record=None):
+def prove_in(store, targets, record):
     """Proves and builds those targets that aren't built from the present sources with the present kit. A record is of what the store has, so
     with one all are taken from there."""
-    for target in targets:
-        made_of(target).parent.mkdir(parents=True, exist_ok=True)
-    plan, kit, store = crates(*targets), Kit(), Store(with_verdicts=record is not None)
-    store.wait("lock", "proves it")
-    since = time.time() - TICK
+    plan, kit = crates(*targets), Kit()
+    listed = list_sources()
     sums = sums_of(plan, kit)
-    stale = [it for it in targets if record or not is_built(it, sums[it], kit)]
-    for target in stale:
-        (made_of(target).parent / "built").unlink(missing_ok=True)
-    if stale:
-        obtain(stale, plan, sums, kit, store)
-    for target in targets:
-        mark(target, sums[target], kit, since)
+    stale = []
+    for made in map(Made, targets):
+        with made.locked():
+            if record or not made.is_of(kit, sums[made.target]):
+                stale.append(made.target)
+                made.forget()
+    is_kept = stale and obtain(stale, plan, sums, kit, store)
+    for made in map(Made, targets):
+        checksum = sums[made.target]
+        with made.locked():
+            if made.target in stale:
+                own = made.take(store, checksum) if is_kept else files.sum_of(made.file)
+                made.mark(kit, checksum, own, store.verdicts(crates(made.target), sums) if is_kept else {})
+            made.keep_list(listed)
     if record:
-        record.write_text("\n".join([kit.identity, *(f"{name} {store.verdict(name, sums[name])}" for name in plan), ""]))
+        built = (f"{files.sum_of(it.file)}  {it.file.relative_to(TOP)}" for it in map(Made, targets))
+        record.write_text("\n".join([kit.identity, *(f"{name} {it}" for name, it in store.verdicts(plan, sums).items()), *built, ""]))
+
+
+def prove(targets, record=None, anew=False):
+    """Proves and builds targets, by a store that is empty at first if they are to be proved anew."""
+    store = Store(record is not None, anew)
+    store.wait("lock", "proves it")
+    try:
+        if anew:
+            store.empty()
+        prove_in(store, targets, record)
+    finally:
+        if anew:
+            store.empty()
+
+
+def look():
+    """Raises why what is built can't be used: something is absent or damaged."""
+    for made in map(Made, MADE):
+        if not os.access(made.file, os.X_OK if made.target == PROGRAM else os.R_OK):
+            raise Failed(f"{made.file.relative_to(TOP)} isn't built: run 'make'")
+        if made.is_damaged():
+            raise Failed(f"{made.file.relative_to(TOP)} isn't what was built there: run 'make'")
+
+
+def summary():
+    """Returns how many crates and functions were proved, by the verdicts that are kept with what is built."""
+    verdicts = {name: it for made in map(Made, MADE) for name, it in made.verdicts().items()}
+    total = len(crates(*MADE))
+    if not verdicts:
+        return "proved by rt, which leaves no verdicts to count"
+    others = "" if len(verdicts) == total else "; the verdicts on the others aren't kept"
+    return f"{len(verdicts)} of {total} crates proved, {sum(map(functions_in, verdicts.values())):,} functions{others}"
 
 
 def outcome(work):
@@ -533,13 +693,22 @@ def outcome(work):
 
 def main():
     given = argparse.ArgumentParser(prog="tools/build.py", description="Proves and builds the targets; without any, both.")
-    given.add_argument("--record", type=pathlib.Path, metavar="FILE", help="write the kit and the verdict on each crate to FILE")
+    given.add_argument("--record", type=pathlib.Path, metavar="FILE", help="write the kit, the verdicts and the checksums to FILE")
+    given.add_argument("--anew", action="store_true", help="with --record: prove everything, and leave the cache alone")
+    given.add_argument("--built", action="store_true", help="only compare what is built with its checksums")
+    given.add_argument("--summary", action="store_true", help="only print how many crates and functions were proved")
     given.add_argument("targets", nargs="*", metavar="TARGET", help=" or ".join(MADE))
     asked = given.parse_args()
     targets = asked.targets or list(MADE)
     if not set(targets) <= set(MADE):
         given.error(f"a target is {' or '.join(MADE)}")
-    return outcome(lambda: prove(targets, asked.record))
+    if asked.anew and not asked.record:
+        given.error("--anew takes --record")
+    if asked.built:
+        return outcome(look)
+    if asked.summary:
+        return outcome(lambda: print(summary()))
+    return outcome(lambda: prove(targets, asked.record, asked.anew))
 
 
 if __name__ == "__main__":

@@ -63,32 +63,37 @@ class Sources:
 
     def __init__(self, name):
         self.name, self.plan, self.kit, self.store = name, build.crates(name), build.Kit(), build.Store()
-        self.since = time.time() - build.TICK
         self.sums = build.sums_of(self.plan, self.kit)
         self.checksum = self.sums[name]
         self.tried = f"unproved-{name}"
 
     def proved(self):
         """Returns the proved program, if it is in its folder or in the store, or None."""
-        made = build.made_of(self.name)
-        if not build.is_built(self.name, self.checksum, self.kit):
-            if not self.store.has(self.name, self.checksum):
-                return None
-            build.tell(f"these sources are proved already: taking {self.name} from {self.store.folder}")
-            made.parent.mkdir(parents=True, exist_ok=True)
-            build.take(self.name, self.checksum, self.store)
-        build.mark(self.name, self.checksum, self.kit, self.since)
-        return made
+        made = build.Made(self.name)
+        with made.locked():
+            if not made.is_of(self.kit, self.checksum):
+                if not self.store.has(self.name, self.checksum):
+                    return None
+                build.tell(f"these sources are proved already: taking {self.name} from {self.store.folder}")
+                own = made.take(self.store, self.checksum)
+                made.mark(self.kit, self.checksum, own, self.store.verdicts(self.plan, self.sums))
+            listed = build.list_sources()
+            # In a folder that can't be written to, the program is looked for in each run.
+            with contextlib.suppress(OSError):
+                if build.sums_of(self.plan, self.kit) == self.sums:
+                    made.keep_list(listed)
+        return made.file
 
     def wait(self):
-        """Waits until no other run builds the unproved program."""
-        if not self.store.has(self.tried, self.checksum):
-            self.store.wait(f"{self.tried}.lock", "builds it without proofs")
+        """Waits until no other run builds the unproved program, and returns whether the store has it."""
+        if self.store.has(self.tried, self.checksum):
+            return True
+        self.store.wait(f"{self.tried}.lock", "builds it without proofs")
+        return self.store.has(self.tried, self.checksum)
 
     def unproved(self, processes):
         """Returns the unproved program, and builds it if the store lacks it. The build ends early if the processes are closed."""
-        self.wait()
-        if not self.store.has(self.tried, self.checksum):
+        if not self.wait():
             with self.store.room(f"trying-{self.name}") as room:
                 folder = pathlib.Path(room) / "made"
                 folder.mkdir()
@@ -139,7 +144,11 @@ def main():
     if status:
         return status
     words = sys.argv[1:]
-    return become(programs["proved"], words) if programs["proved"] else run(programs["unproved"], words)
+    try:
+        return become(programs["proved"], words) if programs["proved"] else run(programs["unproved"], words)
+    except OSError as why:
+        build.tell(why)
+        return 1
 
 
 if __name__ == "__main__":
