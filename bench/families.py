@@ -175,7 +175,7 @@ def families(size, everywhere):
         Family("long lines", long_lines(LIGHT, BEFORE, AFTER) if everywhere else long_lines(LIGHT[:8], FEW_BEFORE), 4_000_000),
         Family("long lines, 1 byte a read", long_lines(ONE_KIND, BEFORE if everywhere else FEW_BEFORE[:2]), 25_000, pieces=[1]),
         Family("long lines, 16 bytes a read", long_lines(ONE_KIND, BEFORE if everywhere else FEW_BEFORE), 150_000, pieces=[16]),
-        Family("long lines, 1,000 bytes a read", long_lines(ONE_KIND, BEFORE if everywhere else FEW_BEFORE), 500_000, pieces=[1000]),
+        Family("long lines, 1,000 bytes a read", long_lines(ONE_KIND, BEFORE if everywhere else FEW_BEFORE), 300_000, pieces=[1000]),
         Family("deep containers, then lines", nested(LINES), 5_000, jobs, options=DEEP),
         Family("deep containers and a long line", long_in_nest(), 5_000, jobs, options=DEEP),
         Family("deep containers over and over", nested_again(), 20_000, ALL_JOBS, options=DEEP),
