@@ -5,6 +5,7 @@ import os
 import pathlib
 import resource
 import subprocess
+import time
 import typing
 
 HERE = pathlib.Path(__file__).resolve().parent
@@ -12,8 +13,9 @@ HERE = pathlib.Path(__file__).resolve().parent
 TOO_MUCH = 5
 # Seconds on the longer text, without those of the start, up to which growth doesn't show.
 SHORT = 0.005
-# How often a growth that is too much is measured again, if it isn't more than twice as much, and the seconds after which a run is stopped.
-AGAIN, STOPPED = 8, 10
+# How often a growth that is too much is measured again, unless it is more than twice that; the seconds between two such turns, in which
+# what else the machine does may end; and the seconds after which a run is stopped.
+AGAIN, PAUSE, STOPPED = 6, 0.1, 10
 
 
 class Growth(typing.NamedTuple):
@@ -51,6 +53,22 @@ def in_memory(text):
     return file
 
 
+class Lengths:
+    """A text at several lengths, each made and written when it is first asked for."""
+
+    def __init__(self, make):
+        self.make, self.files = make, {}
+
+    def at(self, times):
+        if times not in self.files:
+            self.files[times] = in_memory(self.make(times))
+        return self.files[times]
+
+    def close(self):
+        for file in self.files.values():
+            os.close(file)
+
+
 class Runner:
     """Runs a program on texts, whole or in pieces."""
 
@@ -84,7 +102,15 @@ class Runner:
         took, status = self.run(words, piece, file)
         return (took if status in (0, 1) else math.inf), status == 1
 
-    def growth(self, words, piece, once, four):
+    def growth(self, words, piece, lengths, times=1):
+        """The growth from one length of a text to four times that. It is too much only if the one from there to four times that is too."""
+        found = self.steady_growth(words, piece, lengths.at(times), lengths.at(4 * times))
+        if times > 1 or not found.is_too_much() or found.is_too_much(2):
+            return found
+        longer = self.growth(words, piece, lengths, 4)
+        return found if longer.is_too_much() else longer
+
+    def steady_growth(self, words, piece, once, four):
         """The growth from one text to another. If it is too much, both are measured again, and the least times count.
 
         Others use the processors too, and a time can double then.
@@ -96,5 +122,6 @@ class Runner:
         for turn in range(AGAIN):
             if not found.is_too_much() or (turn and found.is_too_much(2)):
                 break
-            found = Growth(*(min(time, self.seconds(words, piece, file)[0]) for time, file in zip(found, (once, four))), refused)
+            time.sleep(PAUSE)
+            found = Growth(*(min(least, self.seconds(words, piece, file)[0]) for least, file in zip(found, (once, four))), refused)
         return found
