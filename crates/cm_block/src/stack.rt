@@ -334,7 +334,7 @@ impl Stack {
         }
     }
 
-    /// Enters the containers in which the line stays. Returns their number.
+    /// Enters the containers in which the line stays. Returns their number. An empty line stays in all items.
     pub(crate) fn matching(
         &self,
         rules: Rules,
@@ -348,6 +348,9 @@ impl Stack {
         ensures plain { line.new.rest.lazy ≡ false → length self.now.frames ≤ result →
             line.new.tests ≤ line.old.tests + result }
     {
+        if line.is_empty() && !self.is_quoted() && !self.is_bare() {
+            return self.depth();
+        }
         matching(rules, self.frames.as_slice(), self.bare, open_text, line)
     }
 

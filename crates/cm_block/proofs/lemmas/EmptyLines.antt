@@ -36,7 +36,7 @@ module _ (rules : Rules) (line : LineView) (none : line.text ≡ []) (eager : li
   enters a_quote f run e = absurd (cc (e))
   enters (an_item kind column) f run e = ap (λ k. goes_inward k run) (stays column)
 
-  matches_all : (run : Bool) (fs : List Frame) → quoted_by false fs ≡ false → (length fs, line) ≡ matching rules false run fs line
+  pub matches_all : (run : Bool) (fs : List Frame) → quoted_by false fs ≡ false → (length fs, line) ≡ matching rules false run fs line
   unfolding matching quoted_by
   matches_all run [] e = refl
   matches_all run (f ∷ fs) e =
