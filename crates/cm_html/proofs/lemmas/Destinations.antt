@@ -1,5 +1,5 @@
 -- What a destination keeps, by the set of what it doesn't.
-use Rattle.std.proofs.Common.{◌≡◌, ℕ, ◌/◌, ◌^◌, bit_and, get_or, length, ◌<◌, ◌≤◌, ◌==◌, ◌||◌, Bool, true, false, not, cond, List, [], ◌∷◌, ◌++◌, codes, refl, ap, sym, ◌∙◌, arith, ⊎_elim}
+use Rattle.std.proofs.Common.{◌≡◌, ℕ, ◌/◌, ◌^◌, bit_and, get_or, ◌<◌, ◌≤◌, ◌==◌, ◌||◌, Bool, true, false, not, cond, List, [], ◌∷◌, ◌++◌, codes, refl, ap, sym, ◌∙◌, arith, ⊎_elim}
 use Rattle.std.specs.Prelude.{flat_map, nat_lt}
 use Rattle.std.specs.List.{list_any, list_all}
 use Rattle.std.specs.Char.{is_ascii_alphanumeric}
@@ -12,7 +12,6 @@ use Rattle.cm_html.specs.declared.escape.TheConstants.{NOT_KEPT}
 use Rattle.cm_html.specs.Escape.{is_kept, escape_byte, escape, destination_byte, destination_html}
 use Rattle.cm_html.specs.steps.Bytes.{is_changed}
 use Rattle.cm_html.specs.declared.search.TheConstants.{PLAIN_LOW, PLAIN_HIGH}
-use Rattle.cm_text.specs.Search.{next_place}
 use Rattle.cm_text.proofs.lemmas.SearchLemmas.{hit}
 use Rattle.std.specs.Simd.Lanes.{top}
 

@@ -3,7 +3,6 @@ use Rattle.std.proofs.Common.{⊎_elim, bit_and, cond, eqb, ◌≡◌, ℕ, zero
 use Rattle.std.specs.Prelude.{not}
 use Rattle.std.specs.List.{list_all, list_any, find}
 use Rattle.std.proofs.lemmas.Bool.{cases_eq, cases_Bool, false_from_ne_true}
-use Rattle.std.proofs.lemmas.Bool.Decides.{nat_tests}
 use Rattle.std.proofs.lemmas.Bool.{agree_below}
 use Rattle.std.specs.Bool.{beq}
 use Rattle.std.specs.Simd.Lanes.{top}

@@ -1,4 +1,4 @@
-use Rattle.std.proofs.Common.{◌∙◌, ◌==◌, not, length, ap}
+use Rattle.std.proofs.Common.{◌∙◌, ◌==◌, length, ap}
 use Rattle.cm_scan.specs.steps.LineSteps.{is_in_break}
 use Rattle.cm_scan.proofs.lemmas.blocks.LineFormLemmas.{all-to-the-end}
 use Rattle.cm_scan.proofs.line_forms.are_in_break.Goals as goal
