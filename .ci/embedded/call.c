@@ -7,10 +7,12 @@
  *   call nothing      a null text of no bytes, with an output that isn't set
  *   call blocks       the size of the block of malloc that HTML comes in
  *   call threads      four threads at once
+ *   call bytes        each value of the byte of each rule: all but zero turn it on
  */
 #include <cmk.h>
 #include <malloc.h>
 #include <pthread.h>
+#include <stddef.h>
 #include <stdio.h>
 #include <string.h>
 
@@ -187,6 +189,35 @@ static int threads(void) {
     return status;
 }
 
+/* The HTML of a text on which each rule shows, with this value in the byte of one. */
+static cmk_output with_byte(size_t place, int value) {
+    static const char text[] = "~~a~~ <b>c</b> [d](ftp:e)\n\n<source>\n";
+    cmk_options options = CMK_OPTIONS;
+    cmk_output output = CMK_OUTPUT;
+    memset((char *)&options + place, value, 1);
+    cmk_html(text, sizeof text - 1, &options, &output);
+    return output;
+}
+
+static int bytes(void) {
+    const size_t places[] = {offsetof(cmk_options, older), offsetof(cmk_options, strike), offsetof(cmk_options, no_html), offsetof(cmk_options, web_links)};
+    size_t at;
+    int status = 0, value;
+    for (at = 0; at < sizeof places / sizeof *places; at++) {
+        cmk_output off = with_byte(places[at], 0), on = with_byte(places[at], 1);
+        for (value = 1; value < 256; value++) {
+            cmk_output output = with_byte(places[at], value);
+            if (output.length == 0 || strcmp(output.bytes, off.bytes) == 0 || strcmp(output.bytes, on.bytes) != 0) {
+                status = 3;
+            }
+            cmk_free(&output);
+        }
+        cmk_free(&off);
+        cmk_free(&on);
+    }
+    return status;
+}
+
 int main(int count, char **words) {
     static char text[1 << 20];
     const char *name = count > 1 ? words[1] : "";
@@ -197,7 +228,8 @@ int main(int count, char **words) {
                : strcmp(name, "lines") == 0 ? lines()
                : strcmp(name, "nothing") == 0 ? nothing()
                : strcmp(name, "blocks") == 0 ? blocks()
-               : strcmp(name, "threads") == 0 ? threads() : 2;
+               : strcmp(name, "threads") == 0 ? threads()
+               : strcmp(name, "bytes") == 0 ? bytes() : 2;
     }
     options.bytes = strtoul(words[2], NULL, 10);
     options.blocks = strtoul(words[3], NULL, 10);
