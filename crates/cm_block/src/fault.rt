@@ -16,7 +16,7 @@ pub enum BlockFault {
     #[error("out of memory")]
     NoMemory,
     /// The texts of one chunk of the document would have 2^32 bytes or more, or it would have as many blocks
-    /// or items. No document of less than 2^32 bytes has.
+    /// or items. No document of at most 2^30 bytes has: a byte becomes at most three bytes of a text.
     #[error("document too large")]
     TooLarge,
 }

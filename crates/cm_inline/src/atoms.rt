@@ -14,7 +14,7 @@ use crate::flanking::run_between;
 use crate::marks::Kind;
 use crate::missing_ends::{MissingEnds, form_at};
 use cm_scan::{after_run, autolink_by, code_span, is_next, raw_html_by, trim_end_spaces};
-use cm_text::{Chars, Rules, is_ascii_punct, next_markup, reference_at};
+use cm_text::{Chars, Rules, is_ascii_punct, next_marked, reference_at};
 use std::alloc::{AllocError, Global};
 
 /// What starts at a place of a source.
@@ -45,7 +45,7 @@ pub(crate) fn text_end(source: &str, at: usize) -> usize
     requires { IsCharBoundary source.now at }
     ensures { IsTextTo source.now at result }
 {
-    let end = next_markup(source.as_bytes(), at);
+    let end = next_marked(source.as_bytes(), at);
     if end < source.len() && source.as_bytes()[end] == b'\n' {
         return at + trim_end_spaces(&source[at..end]).len();
     }

@@ -26,7 +26,7 @@ use crate::leaf::Leaf;
 use crate::nesting::nests_past;
 use crate::spare::Spare;
 use cm_html::Pages;
-use cm_text::{Rules, next_markup};
+use cm_text::{Rules, next_marked};
 use cm_tree::{Block, Definitions, Inline, Items};
 use std::alloc::{AllocError, Global};
 use std::fmt;
@@ -96,7 +96,7 @@ pub fn is_one_text(source: &str) -> bool
     ensures text { IsTrue result → (rules : Rules) (defined : Defined)
         → inlines.inlines_of rules defined source.now ≡ Text source.now ∷ [] }
 {
-    !source.is_empty() && next_markup(source.as_bytes(), 0) == source.len()
+    !source.is_empty() && next_marked(source.as_bytes(), 0) == source.len()
 }
 
 /// Where the text at the start of a source ends.

@@ -48,7 +48,7 @@ pub fn runs_are_few()
     ensures { RunsAreFew }
 {}
 
-/// The bytes that `cm_text::next_markup` skips are plain, and a source of plain bytes is one text, itself.
+/// The bytes that `cm_text::next_marked` skips are plain, and a source of plain bytes is one text, itself.
 /// Before anything else plain bytes are text, except for spaces before a line feed, which are a line break
 /// with it.
 pub fn plain_is_itself()

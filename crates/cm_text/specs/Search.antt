@@ -7,8 +7,13 @@ use Rattle.cm_text.specs.Bytes.{line_feed, carriage_return, space, exclamation_m
 abbrev pub next_place : (ℕ → Bool) → List ℕ → ℕ → ℕ
 next_place passes bytes from = min (length bytes) (from + position_or_len passes (drop from bytes))
 
--- a byte that can start an inline other than text, that HTML escapes, or that ends a line: LF, CR, `!`, `"`, `&`, `*`, `<`, `>`,
--- `[`, `\`, `]`, `_`, a backtick, `~`
+-- a byte that can start an inline other than text, or that ends a line: LF, CR, `!`, `&`, `*`, `<`, `[`, `\`, `]`, `_`, a backtick, `~`
+abbrev pub is_markup : ℕ → Bool
+is_markup b =
+    b == line_feed || b == carriage_return || b == exclamation_mark || b == ampersand || b == asterisk || b == less_than
+    || b == left_bracket || b == backslash || b == right_bracket || b == underscore || b == backtick || b == tilde
+
+-- the same, or one that HTML escapes: `"`, `>`
 abbrev pub is_marked : ℕ → Bool
 is_marked b =
     b == line_feed || b == carriage_return || b == exclamation_mark || b == quotation_mark || b == ampersand || b == asterisk

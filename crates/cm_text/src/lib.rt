@@ -73,7 +73,7 @@ pub use parts::cut_at;
 pub use references::{Chars, reference_at};
 pub use replaced::{Replaced, push_replaced};
 pub use rules::Rules;
-pub use search::{ByteKind, leading_spaces, next_markup, next_of};
+pub use search::{ByteKind, leading_spaces, next_marked, next_markup, next_of};
 pub use text_lines::{TextLines, begins_text};
 pub use texts::text_of;
 pub use unescaping::{unescape, unescape_or_lend};

@@ -5,12 +5,13 @@
 //! text. A single byte is looked up in the table of its kind too: comparing it with each byte takes a branch
 //! between letters and spaces that a processor often predicts wrongly. On `lists.md` the lookup avoids 5.5
 //! percent of wrong predictions, on `prose.md` 6.8.
-ghost use Rattle.std.specs.Prelude.{◌≡◌, ◌+◌, ◌<◌, ◌≤◌};
+ghost use Rattle.std.specs.Prelude.{◌≡◌, ◌+◌, ◌<◌, ◌≤◌, ◌==◌, ◌||◌};
 ghost use Rattle.std.specs.Prelude.{ℕ, Bool, false, not, length, get_or, map, None, IfSome};
 ghost use Rattle.std.specs.List.{position_or_len, prefix_len};
 ghost use Rattle.std.specs.Str.{IsCharBoundary};
 ghost use Rattle.std.specs.Simd.Lanes.{chunk, mask_l};
-ghost use Rattle.cm_text.specs.Search.{next_place, is_marked, is_no_space};
+ghost use Rattle.cm_text.specs.Bytes.{quotation_mark, greater_than};
+ghost use Rattle.cm_text.specs.Search.{next_place, is_markup, is_marked, is_no_space};
 
 use std::simd::prelude::*;
 
@@ -174,10 +175,31 @@ pub fn leading_spaces(text: &str) -> usize
 }
 
 /// The least place, at or after `from`, of a byte that can start an inline other than text, that HTML
-/// escapes, or that ends a line; the length if there is none. The bytes are LF, CR, `!`, `"`, `&`, `*`, `<`,
-/// `>`, `[`, `\`, `]`, `_`, a backtick and `~`.
-pub fn next_markup(bytes: &[u8], from: usize) -> usize
+/// escapes, or that ends a line; the length if there is none. The bytes are those of `next_markup`, `"` and
+/// `>`.
+pub fn next_marked(bytes: &[u8], from: usize) -> usize
     ensures { result ≡ next_place is_marked bytes.now from }
 {
     next_of::<Marked>(bytes, from)
+}
+
+/// Whether HTML escapes a byte that isn't markup.
+#[inline(always)]
+fn is_only_escaped(b: u8) -> bool
+    ensures { result ≡ (b == quotation_mark || b == greater_than) }
+{
+    b == b'"' || b == b'>'
+}
+
+/// The least place, at or after `from`, of a byte that can start an inline other than text, or that ends a
+/// line; the length if there is none. The bytes are LF, CR, `!`, `&`, `*`, `<`, `[`, `\`, `]`, `_`, a backtick
+/// and `~`.
+pub fn next_markup(bytes: &[u8], from: usize) -> usize
+    ensures { result ≡ next_place is_markup bytes.now from }
+{
+    let mut at = next_marked(bytes, from);
+    while at < bytes.len() && is_only_escaped(bytes[at]) {
+        at = next_marked(bytes, at + 1);
+    }
+    at
 }

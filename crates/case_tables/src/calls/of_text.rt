@@ -8,8 +8,8 @@ use crate::trouble::{Trouble, wrong};
 use crate::words::{Word, number};
 use cm_text::{
     Limits, Line, LineFeed, Rules, View, begins_text, cut_at, fold_label, indent, is_ascii_punct,
-    is_followed, is_punct, is_punct_by, is_space, label_number, leading_spaces, next_markup,
-    plain_label_number, reference_at, strip, unescape, unescape_or_lend,
+    is_followed, is_punct, is_punct_by, is_space, label_number, leading_spaces, next_marked,
+    next_markup, plain_label_number, reference_at, strip, unescape, unescape_or_lend,
 };
 use std::alloc::Global;
 
@@ -213,6 +213,7 @@ fn of_one_text(answer: &mut Answer, name: &str, text: &str) -> Result<bool, Trou
 fn at_place(answer: &mut Answer, name: &str, text: &String, at: usize) -> Result<bool, Trouble> {
     match name {
         "cut_at" => cut(answer, text, at)?,
+        "next_marked" => answer.number(next_marked(text.as_bytes(), at))?,
         "next_markup" => answer.number(next_markup(text.as_bytes(), at))?,
         "reference_at" => reference(answer, text, at)?,
         _ => return Ok(false),

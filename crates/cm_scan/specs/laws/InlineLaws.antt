@@ -33,7 +33,7 @@ BracketStep = (rules : Rules) (defined : Defined) (before rest : List ℕ) (item
 abbrev pub is_plain_byte : ℕ → Bool
 is_plain_byte b = b == 32 || not (is_markup b)
 
--- The bytes that `next_markup` skips are plain.
+-- The bytes that `next_marked` skips are plain.
 abbrev pub UnmarkedIsPlain : Type 0
 UnmarkedIsPlain = (b : ℕ) → is_marked b ≡ false → is_plain_byte b ≡ true
 

@@ -1,5 +1,5 @@
 -- The next byte that passes a test, found many lanes at a time.
-use Rattle.std.proofs.Common.{◌≡◌, ℕ, zero, suc, ◌+◌, ◌-◌, ◌*◌, ◌/◌, ◌%◌, ◌^◌, ◌<◌, ◌≤◌, ◌==◌, bit_and, Bool, true, false, not, cond, eqb, replicate, List, [], ◌∷◌, map, nat_lt, Option, Some, None, inl, inr, length, drop, get_or, subst, refl, sym, ap, ap₂, ◌∙◌, arith, w8, Fits, length-drop}
+use Rattle.std.proofs.Common.{◌≡◌, ℕ, zero, suc, ◌+◌, ◌-◌, ◌*◌, ◌/◌, ◌%◌, ◌^◌, ◌<◌, ◌≤◌, ◌==◌, ◌||◌, bit_and, Bool, true, false, not, cond, eqb, replicate, List, [], ◌∷◌, map, nat_lt, Option, Some, None, inl, inr, length, drop, get_or, subst, refl, sym, ap, ap₂, ◌∙◌, arith, w8, Fits, length-drop}
 use Rattle.std.specs.Simd.Lanes.{zip2, mask_l, top, Each1}
 use Rattle.std.proofs.lemmas.Nat.{and_le_r}
 use Rattle.std.proofs.lemmas.Simd.{map-map, mask_l-mod, zip2_splat, swz_l, length-swz_l, get_or-swz_l_below, SwzOk, SwzOk-from_below}
@@ -14,7 +14,7 @@ use Rattle.std.specs.Bool.{then_some}
 use Rattle.std.specs.Option.{is_some}
 use Rattle.std.specs.List.{list_all, position_or_len, prefix_len}
 use Rattle.memchr.specs.Find.{IsFirstByte}
-use Rattle.cm_text.specs.Search.{next_place, is_no_space}
+use Rattle.cm_text.specs.Search.{next_place, is_markup, is_marked, is_no_space}
 
 zip2-map : (h : ℕ → ℕ → ℕ) (f g : ℕ → ℕ) (xs : List ℕ) → zip2 h (map f xs) (map g xs) ≡ map (λ x. h (f x) (g x)) xs
 zip2-map h f g [] = refl
@@ -116,23 +116,26 @@ place-is p bs from i low within fails passes =
     (λ below. ap p (get_or-drop from bs (i - from) 0 ∙ ap (λ n. get_or bs n 0) last) ∙ passes (omega (arith, below, size, low))) in
     omega (arith, count, low, within)
 
+-- up to the next one all fail
+pub before-next : (p : ℕ → Bool) (bs : List ℕ) (from k : ℕ) → from ≤ k → k < next_place p bs from → p (get_or bs k 0) ≡ false
+before-next p bs from k late below =
+    let place : from + (k - from) ≡ k = omega (arith, late) in
+    ap (λ n. p (get_or bs n 0)) (sym place) ∙ ap p (sym (get_or-drop from bs (k - from) 0)) ∙ fails_before_first p (drop from bs) (k - from) 0 (omega (arith, late, below))
+
+-- and that one passes
+pub at-next : (p : ℕ → Bool) (bs : List ℕ) (from : ℕ) → next_place p bs from < length bs → p (get_or bs (next_place p bs from) 0) ≡ true
+at-next p bs from below =
+    let first : ℕ = position_or_len p (drop from bs) in
+    let is : next_place p bs from ≡ from + first = omega (arith, below) in
+    ap (λ n. p (get_or bs n 0)) is ∙ ap p (sym (get_or-drop from bs first 0)) ∙ passes_at_first p (drop from bs) 0 (omega (arith, below, length-drop from bs))
+
 -- searching from a place up to which all fail
 pub next-from : (p : ℕ → Bool) (bs : List ℕ) (from at : ℕ) → from ≤ at → at ≤ length bs → ((k : ℕ) → from ≤ k → k < at → p (get_or bs k 0) ≡ false)
     → next_place p bs at ≡ next_place p bs from
 next-from p bs from at low within fails =
-    place-is p bs from (next_place p bs at) (omega arith) (omega arith)
-    (λ k above below. elim (cases_lt k at) [ inl early ↦ fails k above early | inr late ↦ behind k late (omega arith) ])
-    (λ below.
-    let is : next_place p bs at ≡ at + first = omega arith in
-    ap (λ n. p (get_or bs n 0)) is ∙ ap p (sym (get_or-drop at bs first 0)) ∙ passes_at_first p (drop at bs) 0 (omega (arith, below, length-drop at bs)))
-  where
-    first : ℕ
-    first = position_or_len p (drop at bs)
-
-    behind : (k : ℕ) → at ≤ k → k < at + first → p (get_or bs k 0) ≡ false
-    behind k late below =
-        let place : at + (k - at) ≡ k = omega (arith, late) in
-        ap (λ n. p (get_or bs n 0)) (sym place) ∙ ap p (sym (get_or-drop at bs (k - at) 0)) ∙ fails_before_first p (drop at bs) (k - at) 0 (omega (arith, late, below))
+    place-is p bs from (next_place p bs at) (omega (arith, low, within)) (omega arith)
+    (λ k above below. elim (cases_lt k at) [ inl early ↦ fails k above early | inr late ↦ before-next p bs at k late below ])
+    (at-next p bs at)
 
 -- the first byte that passes
 pub first-byte : (p : ℕ → Bool) (bs : List ℕ) (at : ℕ) (found : Option ℕ) → at ≡ next_place p bs 0 → found ≡ then_some (nat_lt at (length bs)) at → IsFirstByte p bs found
@@ -156,6 +159,30 @@ first-byte p bs at found place e = subst (IsFirstByte p bs) (sym e) (go (nat_lt 
 -- searching from the front
 pub from_the_front : (p : ℕ → Bool) (bs : List ℕ) → next_place p bs 0 ≡ position_or_len p bs
 from_the_front p bs = omega (arith, prefix_len-le-length (λ b. not (p b)) bs)
+
+-- ---- markup, among the bytes that are markup or that HTML escapes
+
+markup-marked : (b : ℕ) → is_marked b ≡ false → is_markup b ≡ false
+markup-marked b none = grind (arith, nat_tests, none)
+
+pub no-markup : (b : ℕ) → (b == 34 || b == 62) ≡ true → is_markup b ≡ false
+no-markup b escaped = grind (arith, nat_tests, escaped)
+
+-- searching from the next byte that is marked
+pub past-unmarked : (bs : List ℕ) (from at : ℕ) → at ≡ next_place is_marked bs from → next_place is_markup bs at ≡ next_place is_markup bs from
+past-unmarked bs from at place = elim (cases_lt (length bs) from) [
+  | inl past ↦ omega (arith, place, past)
+  | inr within ↦ next-from is_markup bs from at (omega (arith, place, within)) (omega (arith, place))
+      (λ k late below. markup-marked (get_or bs k 0) (before-next is_marked bs from k late (omega (arith, place, below))))
+]
+
+pub marked-there : (bs : List ℕ) (from at : ℕ) → at ≡ next_place is_marked bs from → at < length bs → is_marked (get_or bs at 0) ≡ true
+marked-there bs from at place below = ap (λ n. is_marked (get_or bs n 0)) place ∙ at-next is_marked bs from (omega (arith, place, below))
+
+-- searching from the byte after one that isn't markup
+pub past-escaped : (bs : List ℕ) (at : ℕ) → at < length bs → is_markup (get_or bs at 0) ≡ false → next_place is_markup bs (at + 1) ≡ next_place is_markup bs at
+past-escaped bs at below none =
+    next-from is_markup bs at (at + 1) (omega arith) (omega (arith, below)) (λ k low under. let here : k ≡ at = omega (arith, low, under) in ap (λ n. is_markup (get_or bs n 0)) here ∙ none)
 
 -- no byte passes where the first that does would be at the end
 pub none-before-end : (p : ℕ → Bool) (bs : List ℕ) → (next_place p bs 0 == length bs) ≡ list_all (λ b. not (p b)) bs
