@@ -32,6 +32,7 @@
 
 mod example_files;
 mod fault;
+mod fault_places;
 pub mod laws;
 mod outlines;
 mod outputs;
@@ -42,6 +43,7 @@ mod shown;
 pub use cm_command::{Job, Stop, Task, task};
 pub use example_files::{Difference, Report, examples, examples_by};
 pub use fault::Fault;
+pub use fault_places::line_of_fault;
 pub use outputs::{convert, rewrite};
 pub use reading::{Parser, doc_of, html_of, read, read_text, source_of};
-pub use running::{run, tell, tell_unopened};
+pub use running::{run, tell, tell_place, tell_unopened};
