@@ -5,10 +5,10 @@
 #![tactic(auto)]
 
 use cm_text::{FromRead, FromWrite};
-use cm_tool::{Stop, Task, run, task, tell, tell_unopened};
+use cm_tool::{Stop, Task, line_of_fault, run, task, tell, tell_place, tell_unopened};
 use std::env::{self, Env};
 use std::fs::File;
-use std::io::ErrorKind;
+use std::io::{ErrorKind, Read, Seek};
 use std::process::ExitCode;
 
 /// The task that the program's words ask for.
@@ -26,6 +26,19 @@ fn asked<R: Env + AllocGlobal>(rt: &R) -> Result<Task, Stop> {
     }
 }
 
+/// Reports where the fault is with which the task on this file ended. The file is read again from its start:
+/// not opened again, since a pipe or a renamed file would then give other bytes. A file that can't be rewound
+/// is only named.
+fn tell_where<F: Read + Seek>(rt: &HostRuntime, task: &Task, name: &str, file: &mut F) {
+    let alloc = rt.alloc();
+    let line = match file.rewind() {
+        Ok(()) => line_of_fault(alloc, task, &mut FromRead::new(file)).unwrap_or(None),
+        Err(_) => None,
+    };
+    // The fault itself has been reported.
+    let _ = tell_place(alloc, name, line, &mut FromWrite::new(rt.stderr()));
+}
+
 /// Each read and write is one system call, so a count of bytes written is true.
 fn main(rt: HostRuntime) -> ExitCode {
     let alloc = rt.alloc();
@@ -41,9 +54,13 @@ fn main(rt: HostRuntime) -> ExitCode {
             run(alloc, &task, &mut input, &mut output, &mut errors)
         }
         Some(name) => match File::open(&rt, name.as_str()) {
-            Ok(file) => {
-                let mut input = FromRead::new(file);
-                run(alloc, &task, &mut input, &mut output, &mut errors)
+            Ok(mut file) => {
+                let mut input = FromRead::new(&mut file);
+                let status = run(alloc, &task, &mut input, &mut output, &mut errors);
+                if status == 1 {
+                    tell_where(&rt, &task, name, &mut file);
+                }
+                status
             }
             Err(error) => match format!(in alloc; "{error}") {
                 Ok(reason) => tell_unopened(alloc, name, &reason, &mut errors),
