@@ -1,5 +1,5 @@
 -- Worked examples: the lines that faults are on.
-use Rattle.std.specs.Prelude.{◌≡◌, ◌^◌, [], ◌∷◌, ◌++◌, codes, Some, None}
+use Rattle.std.specs.Prelude.{◌≡◌, [], ◌∷◌, ◌++◌, codes, Some, None}
 use Rattle.cm_text.specs.Rules.{profile}
 use Rattle.cm_tool.specs.declared.fault.Fault.TheVariants.{NotUtf8, TooLong, BlocksTooDeep, InlinesTooDeep, ReadFailed}
 use Rattle.cm_tool.specs.FaultPlaces.{line_of_byte, line_of_fault, place_line}

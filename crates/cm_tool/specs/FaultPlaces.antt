@@ -30,7 +30,8 @@ is_of_leaf leaf _ = false
 abbrev pub first_line_of_leaf : (leaf : ℕ) → List Owner → Option ℕ
 first_line_of_leaf leaf owners = position_from (is_of_leaf leaf) 1 owners
 
--- the line of a fault of these bytes: that of its byte, or the first one of its leaf. The text of any other fault has the line, or it is on none.
+-- the line of a fault of these bytes: that of its byte, or the first one of its leaf. Any other fault has its line in its own text, or
+-- none.
 abbrev pub line_of_fault : Rules → List ℕ → Fault → Option ℕ
 line_of_fault rules bytes (NotUtf8 at) = Some (line_of_byte at bytes)
 line_of_fault rules bytes (TooLong at) = Some (line_of_byte at bytes)

@@ -1,5 +1,5 @@
-//! What an outline becomes: the document, its HTML, its listing, its JSON, its plain source; and the line of its
-//! fault.
+//! What an outline becomes: the document, its HTML, its listing, its JSON, its plain source; and the line of
+//! its fault.
 ghost use Rattle.std.specs.Prelude.{◌≡◌, ℕ, List, IfOk, option_and_then};
 ghost use Rattle.cm_tool.specs.FaultPlaces.{line_of_fault};
 ghost use Rattle.cm_tool.specs.Faults.{fault_of};

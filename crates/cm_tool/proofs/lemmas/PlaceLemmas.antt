@@ -11,7 +11,7 @@ use Rattle.cm_block.specs.declared.parser.Outline.{Outline}
 use Rattle.cm_tool.specs.declared.fault.Fault.{Fault}
 use Rattle.cm_tool.specs.declared.fault.Fault.TheVariants.{NotUtf8, TooLong, BlocksTooDeep, InlinesTooDeep, NoMemory, ReadFailed, WriteFailed, Unspellable, BadExampleFile, ExampleDiffers}
 use Rattle.cm_tool.specs.FaultPlaces.{EndsWith, FindsLine, IsLineOfFault, first_line_of_leaf, line_of_fault}
-use Rattle.cm_tool.specs.Faults.{fault_of, settled_fault_of}
+use Rattle.cm_tool.specs.Faults.{fault_of}
 use Rattle.cm_tool.specs.Parsing.{TellsFault}
 use Rattle.cm_tool.specs.Reading.{Refuses}
 use Rattle.cm_tool.specs.steps.FaultOrder.{leaf_deep}
