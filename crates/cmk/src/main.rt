@@ -5,18 +5,32 @@
 #![tactic(auto)]
 
 use cm_text::{FromRead, FromWrite};
-use cm_tool::{Stop, Task, line_of_fault, run, task, tell, tell_place, tell_unopened};
+use cm_tool::{Stop, Task, line_of_fault, run, shown_words, task, tell, tell_place, tell_unopened};
+use std::alloc::Global;
 use std::env::{self, Env};
 use std::fs::File;
 use std::io::{ErrorKind, Read, Seek};
 use std::process::ExitCode;
+
+/// The task that these words ask for. The text about wrong words quotes them, so it is made for the shown
+/// ones: a line feed in a word can't end a line of it.
+fn judged(alloc: Global, words: &[String]) -> Result<Task, Stop> {
+    let answer = task(alloc, words);
+    if !matches!(answer, Err(Stop::Wrong(_))) {
+        return answer;
+    }
+    match task(alloc, &shown_words(alloc, words)?) {
+        Err(stop) => Err(stop),
+        Ok(_) => answer,
+    }
+}
 
 /// The task that the program's words ask for.
 fn asked<R: Env + AllocGlobal>(rt: &R) -> Result<Task, Stop> {
     match env::args(rt) {
         Ok(words) => {
             let words: Vec<String> = words.collect(rt.alloc())?;
-            task(rt.alloc(), &words)
+            judged(rt.alloc(), &words)
         }
         Err(error) if error.kind() == ErrorKind::OutOfMemory => Err(Stop::NoMemory),
         Err(_) => {
@@ -26,9 +40,9 @@ fn asked<R: Env + AllocGlobal>(rt: &R) -> Result<Task, Stop> {
     }
 }
 
-/// Reports where the fault is with which the task on this file ended. The file is read again from its start:
-/// not opened again, since a pipe or a renamed file would then give other bytes. A file that can't be rewound
-/// is only named.
+/// Reports where the fault is with which the task on this file ended. The file is rewound and read again. It
+/// isn't opened again, because opening a pipe would wait for a writer, and the name may be another file's by
+/// then. A file that can't be rewound is only named.
 fn tell_where<F: Read + Seek>(rt: &HostRuntime, task: &Task, name: &str, file: &mut F) {
     let alloc = rt.alloc();
     let line = match file.rewind() {
