@@ -87,9 +87,9 @@ fn line_before_outline(bytes: &[u8], fault: Fault) -> Result<Option<usize>, NoMe
     }
 }
 
-/// Reads a source again, and returns the line of the fault with which the task ended: that of the byte of F1
-/// or F2, and the first one of the leaf of F4. Faults of any other kind have none, and so have those in a
-/// file of examples. The source has to be at its start.
+/// Reads the text of a task, and returns the line of its fault: that of the byte of F1 or F2, and the first
+/// one of the leaf of F4. Faults of any other kind have none, and so have those in a file of examples. A
+/// source that the task has read has to be at its start again.
 ///
 /// A fault that the bytes settle ends the reading: no read is made after it. So does a failed read.
 ///
