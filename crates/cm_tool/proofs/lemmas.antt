@@ -40,5 +40,6 @@ pub mod TellingLemmas
 pub mod TextLemmas
 pub mod WithinLemmas
 pub mod PassedLemmas
+pub mod PlaceLemmas
 pub mod RawWalkLemmas
 pub mod LeafWalkLemmas

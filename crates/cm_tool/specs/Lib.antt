@@ -5,6 +5,8 @@ pub mod Faults
 pub mod FaultLines
 pub mod Reading
 pub mod FaultExamples
+pub mod FaultPlaces
+pub mod FaultPlaceExamples
 pub mod Owners
 pub mod Parsing
 pub mod Writing

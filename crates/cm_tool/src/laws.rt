@@ -7,6 +7,7 @@ ghost use Rattle.cm_tool.specs.Shown.{ShownIsPrintable};
 ghost use Rattle.cm_tool.specs.ShownExamples.{ShownExamples};
 ghost use Rattle.cm_tool.specs.Owners.{OneOwnerALine, RunsInOrder};
 ghost use Rattle.cm_tool.specs.FaultExamples.{FaultExamples};
+ghost use Rattle.cm_tool.specs.FaultPlaceExamples.{FaultPlaceExamples};
 ghost use Rattle.cm_tool.specs.TextMarkup.{HeadingLevels, TextIsNoMarkup, TextsFromStrangers};
 ghost use Rattle.cm_tool.specs.Within.{NoFaultJustWithin, SpelledWithoutFault};
 ghost use Rattle.cm_tool.specs.steps.FaultOrder.{FaultsInOrder};
@@ -15,6 +16,8 @@ ghost use Rattle.cm_tool.specs.steps.FaultOrder.{FaultsInOrder};
 pub fn worked_examples()
     // Of faults.
     ensures faults { FaultExamples }
+    // Of the lines that they are on.
+    ensures places { FaultPlaceExamples }
     // From the bytes of a text to its HTML.
     ensures html { HtmlExamples }
     // From a file of examples to their report.

@@ -8,8 +8,9 @@
 //! - For files of examples: [`examples`] and [`examples_by`], which return a [`Report`].
 //! - [`Fault`] has each fault, with the line that the program prints.
 //!
-//! The program consists of [`task`], [`run`], [`tell`] and [`tell_unopened`]. `cm_command` reads the command
-//! line, so no other crate is checked together with `clap`.
+//! The program consists of [`task`], [`run`], and what reports faults: [`tell`], [`tell_unopened`],
+//! [`line_of_fault`] and [`tell_place`]. `cm_command` reads the command line, so no other crate is checked
+//! together with `clap`.
 //!
 //! ```
 //! use cm_text::Limits;
@@ -32,6 +33,7 @@
 
 mod example_files;
 mod fault;
+mod fault_places;
 pub mod laws;
 mod outlines;
 mod outputs;
@@ -42,6 +44,8 @@ mod shown;
 pub use cm_command::{Job, Stop, Task, task};
 pub use example_files::{Difference, Report, examples, examples_by};
 pub use fault::Fault;
+pub use fault_places::line_of_fault;
 pub use outputs::{convert, rewrite};
 pub use reading::{Parser, doc_of, html_of, read, read_text, source_of};
-pub use running::{run, tell, tell_unopened};
+pub use running::{run, tell, tell_place, tell_unopened};
+pub use shown::shown_words;

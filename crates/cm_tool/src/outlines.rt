@@ -1,5 +1,8 @@
-//! What an outline becomes: the document, its HTML, its listing, its JSON, its plain source.
-ghost use Rattle.std.specs.Prelude.{◌≡◌, ℕ, List};
+//! What an outline becomes: the document, its HTML, its listing, its JSON, its plain source; and the line of
+//! its fault.
+ghost use Rattle.std.specs.Prelude.{◌≡◌, ℕ, List, IfOk, option_and_then};
+ghost use Rattle.cm_tool.specs.FaultPlaces.{line_of_fault};
+ghost use Rattle.cm_tool.specs.Faults.{fault_of};
 ghost use Rattle.cm_tool.specs.Parsing.{Finishes, Makes};
 ghost use Rattle.cm_tool.specs.Rewriting.{kept_tree};
 ghost use Rattle.cm_tool.specs.Writing.{converted, listed, in_json, IsTreeInJson};
@@ -7,6 +10,7 @@ ghost use Rattle.cm_tool.specs.steps.ReadingSteps.{IsOutline};
 ghost use Rattle.cm_tool.specs.steps.PlainSources.{Spelled};
 
 mod document;
+mod faults;
 mod html;
 mod json;
 mod leaf_walk;
@@ -18,9 +22,10 @@ use cm_block::Outline;
 use cm_html::Pages;
 use cm_json::JsonText;
 use cm_source::Why;
-use cm_text::Limits;
+use cm_text::{Limits, NoMemory};
 use cm_tree::Doc;
 use document::read_leaves;
+use faults::{check_leaves, first_line_of_leaf};
 use leaf_walk::LeafWalk;
 use std::alloc::Global;
 
@@ -140,4 +145,28 @@ pub(crate) fn plain_source_of_outline(
     drop(owners);
     let mut walk = LeafWalk::new(alloc, limits, definitions, blocks);
     walk.plain_source(limits.rules())
+}
+
+/// The line of an outline's first leaf whose inlines nest deeper than the limit.
+pub(crate) fn line_in_outline(
+    alloc: Global,
+    limits: Limits,
+    outline: Outline,
+) -> Result<Option<usize>, NoMemory>
+    ensures { (bytes : List ℕ) → IsOutline limits bytes outline → IfOk result (λ line.
+        line ≡ option_and_then (line_of_fault limits.rules bytes) (fault_of limits bytes)) }
+{
+    let Outline {
+        blocks,
+        owners,
+        definitions,
+        ..
+    } = outline;
+    match check_leaves(alloc, limits, definitions, blocks) {
+        Ok(()) => Ok(None),
+        Err(Fault::InlinesTooDeep { leaf }) => {
+            Ok(first_line_of_leaf(owners.to_items(alloc)?.as_slice(), leaf))
+        }
+        Err(_) => Err(NoMemory),
+    }
 }

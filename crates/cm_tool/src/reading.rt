@@ -18,7 +18,7 @@ use cm_tree::Doc;
 pub use in_memory::{doc_of, html_of, source_of};
 pub use parser::Parser;
 use std::alloc::Global;
-use taking_in::take_all;
+pub(crate) use taking_in::{TakesBytes, take_all};
 pub use texts::read_text;
 
 /// Reads a source to its end and returns the outline of its document.

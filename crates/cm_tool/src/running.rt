@@ -1,17 +1,21 @@
 //! Doing a task, and reporting faults.
-ghost use Rattle.std.specs.Prelude.{◌≡◌, ℕ, ◌-◌, ◌^◌, ◌<◌, List, Result, IfOk, string_bytes};
+ghost use Rattle.std.specs.Prelude.{◌≡◌, ℕ, ◌-◌, ◌^◌, ◌<◌, List, Result, IfOk, OnErr, OnOk};
+ghost use Rattle.std.specs.Prelude.{string_bytes};
 ghost use Rattle.std.specs.Io.KnownBytes.{Consumes};
+ghost use Rattle.cm_text.specs.Writing.{IsUnwritten};
 ghost use Rattle.cm_tool.specs.declared.fault.Fault as faults;
+ghost use Rattle.cm_tool.specs.FaultPlaces.{place_line};
 ghost use Rattle.cm_tool.specs.Running.{Does, Offered, OfferedLine, ReportsDone, RunsTo, Tells};
 ghost use Rattle.cm_tool.specs.Running.{TellsUnopened, no_example_line, unopened_lines};
 
 use crate::example_files::{OPENING, report};
 use crate::fault::{Fault, LINE};
 use crate::outputs::{convert, list, rewrite, write_json};
-use crate::shown::push_shown;
+use crate::shown::{push_shown, shown_lines};
 use arrayvec::ArrayString;
 use cm_command::{Job, Stop, Task};
 use cm_text::{Sink, Source, WriteFailed, write_all};
+use itoa::Buffer;
 use std::alloc::{AllocError, Global};
 
 /// Writes the text, and ignores a failure.
@@ -102,7 +106,9 @@ pub fn run<R: Source, W: Sink, E: Sink>(
 }
 
 /// Reports why there is no task, and returns the exit status: 0 for help, which is written to `writer`, 2 for
-/// a wrong command line, and 1 for lack of memory or a failure of `writer`. A failure of `errors` is ignored.
+/// a wrong command line, and 1 for lack of memory or a failure of `writer`. Control and format characters of
+/// the text about a wrong command line are written as `\u{..}`, except line feeds. A failure of `errors` is
+/// ignored.
 pub fn tell<W: Sink, E: Sink>(stop: &Stop, writer: &mut W, errors: &mut E) -> u8
     requires writes { (W.seen writer.old).failed < 2 ^ 64 - 1 }
     requires tells { (E.seen errors.old).failed < 2 ^ 64 - 1 }
@@ -114,10 +120,13 @@ pub fn tell<W: Sink, E: Sink>(stop: &Stop, writer: &mut W, errors: &mut E) -> u8
             Ok(()) => 0,
             Err(WriteFailed { written }) => tell_fault(Fault::WriteFailed { written }, errors),
         },
-        Stop::Wrong(text) => {
-            offer(errors, text.as_bytes());
-            2
-        }
+        Stop::Wrong(text) => match shown_lines(text) {
+            Ok(shown) => {
+                offer(errors, shown.as_bytes());
+                2
+            }
+            Err(_) => tell_fault(Fault::NoMemory, errors),
+        },
         Stop::NoMemory => tell_fault(Fault::NoMemory, errors),
     }
 }
@@ -151,4 +160,40 @@ pub fn tell_unopened<E: Sink>(alloc: Global, name: &str, reason: &str, errors: &
         }
         Err(_) => tell_fault(Fault::NoMemory, errors),
     }
+}
+
+/// The line with the name of a file, and the line in it, if there is one.
+fn place_line(alloc: Global, name: &str, line: Option<usize>) -> Result<String, AllocError>
+    ensures { IfOk result (λ text. string_bytes text ≡ place_line name.now line) }
+{
+    let mut text = String::from_str(alloc, "cmk: in ")?;
+    push_shown(&mut text, name)?;
+    if let Some(line) = line {
+        text.push_str(", line ")?;
+        text.push_str(Buffer::new().format(line))?;
+    }
+    text.push_str("\n")?;
+    Ok(text)
+}
+
+/// Reports which file a fault is in, and on which line of it, if it is on one: the line after that of the
+/// fault. Control and format characters of the name are written as `\u{..}`. A failure of `errors` is
+/// ignored.
+///
+/// # Errors
+///
+/// `AllocError` if a request for memory was refused. Nothing was written then.
+pub fn tell_place<E: Sink>(
+    alloc: Global,
+    name: &str,
+    line: Option<usize>,
+    errors: &mut E,
+) -> Result<(), AllocError>
+    requires { (E.seen errors.old).failed < 2 ^ 64 - 1 }
+    ensures line { OnOk result (Offered (E.seen errors.old) (E.seen errors.new) (place_line name.now line)) }
+    ensures memory { OnErr result (IsUnwritten (E.seen errors.old) (E.seen errors.new)) }
+{
+    let place = place_line(alloc, name, line)?;
+    offer(errors, place.as_bytes());
+    Ok(())
 }

@@ -5,18 +5,32 @@
 #![tactic(auto)]
 
 use cm_text::{FromRead, FromWrite};
-use cm_tool::{Stop, Task, run, task, tell, tell_unopened};
+use cm_tool::{Stop, Task, line_of_fault, run, shown_words, task, tell, tell_place, tell_unopened};
+use std::alloc::Global;
 use std::env::{self, Env};
 use std::fs::File;
-use std::io::ErrorKind;
+use std::io::{ErrorKind, Read, Seek};
 use std::process::ExitCode;
+
+/// The task that these words ask for. The text about wrong words quotes them, so it is made for the shown
+/// ones: a line feed in a word can't end a line of it.
+fn judged(alloc: Global, words: &[String]) -> Result<Task, Stop> {
+    let answer = task(alloc, words);
+    if !matches!(answer, Err(Stop::Wrong(_))) {
+        return answer;
+    }
+    match task(alloc, &shown_words(alloc, words)?) {
+        Err(stop) => Err(stop),
+        Ok(_) => answer,
+    }
+}
 
 /// The task that the program's words ask for.
 fn asked<R: Env + AllocGlobal>(rt: &R) -> Result<Task, Stop> {
     match env::args(rt) {
         Ok(words) => {
             let words: Vec<String> = words.collect(rt.alloc())?;
-            task(rt.alloc(), &words)
+            judged(rt.alloc(), &words)
         }
         Err(error) if error.kind() == ErrorKind::OutOfMemory => Err(Stop::NoMemory),
         Err(_) => {
@@ -24,6 +38,19 @@ fn asked<R: Env + AllocGlobal>(rt: &R) -> Result<Task, Stop> {
             Err(Stop::Wrong(String::from_str(rt.alloc(), text)?))
         }
     }
+}
+
+/// Reports where the fault is with which the task on this file ended. The file is rewound and read again. It
+/// isn't opened again, because opening a pipe would wait for a writer, and the name may be another file's by
+/// then. A file that can't be rewound is only named.
+fn tell_where<F: Read + Seek>(rt: &HostRuntime, task: &Task, name: &str, file: &mut F) {
+    let alloc = rt.alloc();
+    let line = match file.rewind() {
+        Ok(()) => line_of_fault(alloc, task, &mut FromRead::new(file)).unwrap_or(None),
+        Err(_) => None,
+    };
+    // The fault itself has been reported.
+    let _ = tell_place(alloc, name, line, &mut FromWrite::new(rt.stderr()));
 }
 
 /// Each read and write is one system call, so a count of bytes written is true.
@@ -41,9 +68,13 @@ fn main(rt: HostRuntime) -> ExitCode {
             run(alloc, &task, &mut input, &mut output, &mut errors)
         }
         Some(name) => match File::open(&rt, name.as_str()) {
-            Ok(file) => {
-                let mut input = FromRead::new(file);
-                run(alloc, &task, &mut input, &mut output, &mut errors)
+            Ok(mut file) => {
+                let mut input = FromRead::new(&mut file);
+                let status = run(alloc, &task, &mut input, &mut output, &mut errors);
+                if status == 1 {
+                    tell_where(&rt, &task, name, &mut file);
+                }
+                status
             }
             Err(error) => match format!(in alloc; "{error}") {
                 Ok(reason) => tell_unopened(alloc, name, &reason, &mut errors),

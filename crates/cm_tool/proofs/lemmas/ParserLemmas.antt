@@ -241,7 +241,7 @@ module _ (limits : LimitsView) where
     tree_read : read ≡ tree_of limits.rules bytes
     tree_read = ap₂ (λ table blocks. with_inlines limits.rules (defined_in table) blocks) is.same.definitions is.same.blocks
 
-    whole : first_leaf_past limits.inlines read ≡ None → fault_of limits bytes ≡ None
+    pub whole : first_leaf_past limits.inlines read ≡ None → fault_of limits bytes ≡ None
     whole within = is.left ∙ ap (option_map InlinesTooDeep) (sym (ap (first_leaf_past limits.inlines) tree_read) ∙ within)
 
     -- a leaf is too deep

@@ -2,7 +2,7 @@
 //!
 //! A long piece is read in slices of 8 KiB, so that what the parser holds doesn't grow with the piece.
 ghost use Rattle.std.specs.Prelude.{◌≡◌, ◌≢◌, ◌+◌, ◌-◌, ◌≤◌, [], ◌++◌};
-ghost use Rattle.std.specs.Prelude.{ℕ, List, length, IfOk, IfErr, OnOk, Some, None, Err, false};
+ghost use Rattle.std.specs.Prelude.{ℕ, List, length, IfOk, IfErr, OnOk, Some, None, Err, false, ⊤};
 ghost use Rattle.cm_text.specs.Answers.{answer_after};
 ghost use Rattle.cm_text.specs.Limits.{LimitsView};
 ghost use Rattle.cm_text.specs.Lines.{LineView};
@@ -148,6 +148,8 @@ impl Parser {
 
 impl TakesBytes for Parser {
     ghost has_taken_in = { λ limits parser bytes. HasTakenIn limits parser bytes };
+
+    ghost was_given = { λ _ _. ⊤ };
 
     ghost settled = { settled_fault_of };
 

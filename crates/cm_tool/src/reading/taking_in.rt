@@ -1,11 +1,11 @@
 //! Reads a source to its end, and passes its bytes on in pieces.
 ghost use Rattle.std.specs.Prelude.{◌≡◌, ℕ, ◌+◌, ◌-◌, ◌^◌, ◌<◌, ◌≤◌, List, [], ◌++◌, Option, None, length};
-ghost use Rattle.std.specs.Prelude.{IfOk, OnOk};
+ghost use Rattle.std.specs.Prelude.{IfOk, IfErr, OnOk};
 ghost use Rattle.std.specs.Io.KnownBytes.{Consumes};
 ghost use Rattle.cm_text.specs.Limits.{LimitsView};
 ghost use Rattle.cm_tool.specs.declared.fault.Fault as faults;
 ghost use Rattle.cm_tool.specs.Parsing.{Answers};
-ghost use Rattle.cm_tool.specs.steps.ReadingSteps.{TakesIn};
+ghost use Rattle.cm_tool.specs.steps.ReadingSteps.{IsInText, TakesIn};
 
 use crate::fault::Fault;
 use crate::reading::parser::SLICE;
@@ -16,6 +16,9 @@ use std::alloc::{AllocError, Global};
 pub(crate) trait TakesBytes {
     // It has read these bytes, which settle no fault.
     ghost has_taken_in: { LimitsView → Self → List ℕ → Type 0 };
+
+    // It was given these bytes, some of which it refused.
+    ghost was_given: { Self → List ℕ → Type 0 };
 
     // The fault that bytes settle.
     ghost settled: { LimitsView → List ℕ → Option faults.Fault };
@@ -29,6 +32,8 @@ pub(crate) trait TakesBytes {
             → has_taken_in limits self.old bytes → has_taken_in limits self.new (bytes ++ piece.now)) }
         ensures settled { (limits : LimitsView) (bytes : List ℕ)
             → has_taken_in limits self.old bytes → Answers result (settled limits (bytes ++ piece.now)) }
+        ensures given { IfErr result (λ fault. (limits : LimitsView) (bytes : List ℕ)
+            → has_taken_in limits self.old bytes → IsInText fault → was_given self.new (bytes ++ piece.now)) }
         ensures left { OnOk result (left self.new + length piece.now ≡ left self.old) };
 }
 
@@ -63,7 +68,9 @@ pub(crate) fn take_all<R: Source, T: TakesBytes>(
     ensures { (bytes : List ℕ) × Consumes (R.seen source.old).remaining (R.seen source.new).remaining bytes
         × ((limits : LimitsView) → T.has_taken_in limits taker.old [] → T.settled limits [] ≡ None
         → TakesIn (T.has_taken_in limits taker.new) (T.settled limits) result bytes
-        (R.seen source.old) (R.seen source.new)) }
+        (R.seen source.old) (R.seen source.new))
+        × ((limits : LimitsView) → T.has_taken_in limits taker.old [] → T.settled limits [] ≡ None
+        → IfErr result (λ fault. IsInText fault → T.was_given taker.new bytes)) }
 {
     let mut buffer = zeros(alloc, SLICE)?;
     loop {

@@ -2,7 +2,7 @@
 //!
 //! The bytes also go through a feed, so that the same proved code finds their faults, and as early. The cost
 //! is that lines are made that nobody uses.
-ghost use Rattle.std.specs.Prelude.{◌≡◌, ℕ, ◌-◌, ◌^◌, ◌<◌, ◌≤◌, List, IfOk, IfErr, None, string_bytes};
+ghost use Rattle.std.specs.Prelude.{◌≡◌, ℕ, ◌-◌, ◌^◌, ◌<◌, ◌≤◌, List, IfOk, IfErr, None, string_bytes, ⊤};
 ghost use Rattle.std.specs.Io.KnownBytes.{Consumes};
 ghost use Rattle.cm_text.specs.Feed.{count};
 ghost use Rattle.cm_text.specs.Limits.{LimitsView};
@@ -53,6 +53,8 @@ impl TextBytes {
 
 impl TakesBytes for TextBytes {
     ghost has_taken_in = { λ limits text bytes. HasGathered limits text bytes };
+
+    ghost was_given = { λ _ _. ⊤ };
 
     ghost settled = { settled_of_text };
 

@@ -97,4 +97,25 @@ returns-clause-shown c = record {
   line_separator = refl;
   override_of_direction = refl;
   tag = refl;
+  lines = refl;
+}
+
+pub returns-clause-places : goal.returns-clause-places
+unfolding block_structure digits is_nonprinting ucd_category chars encode
+returns-clause-places c = record {
+  first_byte = refl;
+  line_feed = refl;
+  start_of_a_line = refl;
+  empty_line = refl;
+  carriage_return = refl;
+  between_both = refl;
+  after_both = refl;
+  nul = refl;
+  no_utf8 = refl;
+  too_long = refl;
+  leaf = refl;
+  told_already = refl;
+  nowhere = refl;
+  named = refl;
+  named_with_the_line = refl;
 }

@@ -32,6 +32,7 @@ returns-in_err-take g c =
       λ limits stands none whole.
           fault_told (g.T.TakesBytes.settled limits (read ++ piece)) whole c.in_err-take.field-0.0 _ _ _ read so_far.2 c.in-Ok.ensures.failures
           (c.in_err-take.ensures.settled limits read (so_far.1 limits stands none).0),
+      λ limits stands none. c.in_err-take.ensures.given limits read (so_far.1 limits stands none).0,
     )
 
 pub returns-in_default : goal.returns-in_default
@@ -41,6 +42,7 @@ returns-in_default g c =
       read,
       nothing_more _ _ _ read so_far.2 c.in_default.ensures.bytes,
       λ limits stands none whole. failed_so_far _ _ _ _ read so_far.2 c.in_default.ensures.failures (so_far.1 limits stands none).1,
+      λ limits stands none at. absurd at,
     )
 
 pub returns-then-n-eq0 : goal.returns-then-n-eq0
@@ -52,6 +54,7 @@ returns-then-n-eq0 g c =
       λ limits stands none.
           let held = so_far.1 limits stands none in
           (c.in-Ok.ensures.failures ∙ so_far.2.failed, c.in-Ok.ensures.bytes.1 c.if-n-eq0.true (omega arith), held.0, held.1),
+      λ limits stands none. tt,
     )
 
 pub returns-in_err-buffer-2 : goal.returns-in_err-buffer-2
@@ -64,4 +67,5 @@ returns-in_err-buffer-2 g c =
       read ++ piece,
       more_read _ _ _ read piece so_far.2 c.in-Ok.ensures.bytes.0,
       λ limits stands none whole. c.in-Ok.ensures.failures ∙ so_far.2.failed,
+      λ limits stands none at. absurd at,
     )
