@@ -191,7 +191,7 @@ static int threads(void) {
 
 /* The HTML of a text on which each rule shows, with this value in the byte of one. */
 static cmk_output with_byte(size_t place, int value) {
-    static const char text[] = "~~a~~ <b>c</b> [d](ftp:e)\n\n<source>\n";
+    static const char text[] = "~~a~~ <b>c</b> [d](ftp:e)\n\n<source>x\n";
     cmk_options options = CMK_OPTIONS;
     cmk_output output = CMK_OUTPUT;
     memset((char *)&options + place, value, 1);
