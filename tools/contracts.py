@@ -341,7 +341,8 @@ def contracts_of(path):
     crate, *names = path.split("::")
     owner = names[-2] if len(names) > 1 and names[-2][0].isupper() else None
     files = sorted((CRATES / crate / "src").rglob("*.rt"))
-    found = [Part(file, call.part.line, [path], call.part.text) for file in files for call in calls(file) if asked_of(call, owner, names[-1])]
+    asked = [(file, call.part) for file in files for call in calls(file) if asked_of(call, owner, names[-1])]
+    found = [Part(file, part.line, [path], part.text) for file, part in asked]
     if not found:
         raise SystemExit(f"there is no public function {path}")
     return found
