@@ -6,6 +6,7 @@ Names are followed by the `use` lines of each file.
 
 import dataclasses
 import functools
+import itertools
 import pathlib
 import re
 
@@ -16,8 +17,8 @@ COLUMNS = ["Definitions", "Files", "Lines", "Types and traits", "Lines", "Words 
 STRING = re.compile(r'"(?:\\.|[^"\\])*"')
 WORD = re.compile(r"[^\s(){}\[\],;.:|]+(?:\|>)?")
 USE = re.compile(r"^\s*(?:ghost |pub |unfoldable )*use Rattle\.([\w.]+?)(?:\.\{([^}]*)\}| as (\w+))", re.MULTILINE)
-OPENER = re.compile(r"module |(?:unfoldable )?mutual$")
-HEADER = re.compile(r"^\s*(?:abbrev |unfoldable )?pub (?:data |record )?(\S+)")
+OPENER = re.compile(r"module |(?:unfoldable |abbrev )?mutual$")
+HEADER = re.compile(r"^\s*(?:(?:abbrev |unfoldable )(?:pub )?|pub )(?:data |record )?(?!mutual$)(\S+)")
 DECLARED = re.compile(
     r"(?:^(?:///|#\[)[^\n]*\n)*^pub(?:\(crate\))? (?:enum|struct|trait) (\w+)[^\n]*(?:;|\}|\{\n(?:(?:[ ][^\n]*)?\n)*\})$", re.MULTILINE)
 CLAUSES = ("requires ", "ensures ")
@@ -254,12 +255,22 @@ def is_private(file, trait):
     return any(declared.search(other.read_text()) for other in files)
 
 
+def without_bodies(lines):
+    """The lines of an `impl` but those of the bodies of its functions."""
+    is_body = False
+    for line in lines:
+        is_body = is_body and line != "    }"
+        if not is_body:
+            yield line
+        is_body = is_body or re.match(r" {4}(?:\{$|(?:fn|\)) .*\{$)", line) is not None
+
+
 def promise_at(file, lines, at, end):
     """What a type promises by a trait: the ghosts and the clauses of the `impl` that these lines are."""
     found, text = TRAIT.match(lines[at]), lines[at:end]
     clauses = re.findall(r"^    ghost (\w+) =", "\n".join(text), re.MULTILINE)
     clauses += [name for name in clauses_in(text) if name not in clauses]
-    kept = [line for line in text if re.match(r" {4}(?:ghost|fn) | {8}(?:requires|ensures) | {12}", line)]
+    kept = [line for line in without_bodies(text) if re.match(r" {4}(?:ghost|fn) | {8}(?:requires|ensures) | {12}", line)]
     part = Part(file, at + 1, [found[2]], "\n".join([lines[at], *kept]))
     return Call(found[2], found[1], comment_before(lines, at), clauses, True, False, part)
 
@@ -317,15 +328,29 @@ def source_files(file):
         yield from source_files(module_file(file, name))
 
 
-def contract(path):
-    """The signature and the clauses of a call, as a part. What is in the braces of its body isn't among them."""
+def asked_of(call, owner, name):
+    """Whether a path asks for a call: for a function, or for what a type promises by a trait that has the function."""
+    if call.is_promise():
+        return call.owner == owner and (call.name == name or re.search(rf"^    fn {re.escape(name)}\b", call.part.text, re.MULTILINE))
+    return call.is_public and (call.owner, call.name) == (owner, name)
+
+
+def contracts_of(path):
+    """The signature and the clauses of a call, as a part. What is in the braces of its body isn't among them. A type can promise several
+    functions of one name, each by a trait of its own."""
     crate, *names = path.split("::")
     owner = names[-2] if len(names) > 1 and names[-2][0].isupper() else None
-    for file in sorted((CRATES / crate / "src").rglob("*.rt")):
-        for call in calls(file):
-            if call.is_public and (call.owner, call.name) == (owner, names[-1]):
-                return Part(file, call.part.line, [path], call.part.text)
-    raise SystemExit(f"there is no public function {path}")
+    files = sorted((CRATES / crate / "src").rglob("*.rt"))
+    asked = [(file, call.part) for file in files for call in calls(file) if asked_of(call, owner, names[-1])]
+    found = [Part(file, part.line, [path], part.text) for file, part in asked]
+    if not found:
+        raise SystemExit(f"there is no public function {path}")
+    return found
+
+
+def contract(path):
+    """The first contract of a call."""
+    return contracts_of(path)[0]
 
 
 def reached(*firsts, by_views=True):
@@ -373,8 +398,8 @@ def number_table(paths):
     """The lines of a table with the numbers of each contract, and of all."""
     yield f"| Contract | {' | '.join(COLUMNS)} |"
     yield f"|---|{'---|' * len(COLUMNS)}"
-    firsts = [contract(path) for path in paths]
-    for path, first in zip(paths, firsts):
-        yield number_row(f"`{path}`", *reached(first))
+    firsts = [contracts_of(path) for path in paths]
+    for path, found in zip(paths, firsts):
+        yield number_row(f"`{path}`", *reached(*found))
     if len(paths) > 1:
-        yield number_row("all of these", *reached(*firsts))
+        yield number_row("all of these", *reached(*itertools.chain.from_iterable(firsts)))
