@@ -38,6 +38,8 @@ DEFINITIONS = ["[a]:", "[a]: ", "[a]:\n", "[a]: <", "[a]: <b", "[a]: <b>", "[a]:
                '[a]: b\n"', '[a]: b "c"\n', "[a]: b 'c' d\n", "[a]: b(", "[a\n", "[\\]"]
 # Whatever one could search for from one of them.
 ENDS = ["", ">", "->", "-->", "?>", "]]>", "`", "``", ")", "]", "](b)", "]: b\n", '"', '")', "'", ";", "*", "**", "_", "~~"]
+# Those that are tried after each start where there is little time.
+FEW_ENDS = ["", ">", "-->", "?>", "]]>", "`", ")", "]", "](b)", '"', "'", ";"]
 
 # What is open while another start is repeated, with what ends it.
 OPENERS = {
@@ -164,10 +166,11 @@ def in_kinds(name, ends, size, *how):
 def families(size, everywhere):
     """All families, those of starts with about `size` repetitions; with all jobs and rules, or with those that show most."""
     jobs, rules = (ALL_JOBS, ALL_RULES) if everywhere else (RENDER, [STANDARD])
+    ends = ENDS if everywhere else FEW_ENDS
     starts = [f"{start}\n" for kind in STARTS.values() for start in kind]
     found = [
-        *in_kinds("a start over and over, and an end", ENDS, size, jobs, ALL_RULES),
-        Family("definitions over and over, and an end", pairs(DEFINITIONS, ENDS), size, jobs, rules),
+        *in_kinds("a start over and over, and an end", ends, size, jobs, ALL_RULES),
+        Family("definitions over and over, and an end", pairs(DEFINITIONS, ends), size, jobs, rules),
         Family("a start on each line, and an end", pairs(starts, ENDS[:5] if everywhere else ENDS[:1]), size, jobs, rules),
         Family("two starts in turn, and an end", repeated_in_turn(), size // 2, jobs, rules),
         Family("one start within another", repeated_inside(), size, jobs, rules),
