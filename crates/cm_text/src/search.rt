@@ -192,8 +192,8 @@ fn is_only_escaped(b: u8) -> bool
 }
 
 /// The least place, at or after `from`, of a byte that can start an inline other than text, or that ends a
-/// line; the length if there is none. The bytes are LF, CR, `!`, `&`, `*`, `<`, `[`, `\`, `]`, `_`, a backtick
-/// and `~`.
+/// line; the length if there is none. The bytes are LF, CR, `!`, `&`, `*`, `<`, `[`, `\`, `]`, `_`, a
+/// backtick and `~`.
 pub fn next_markup(bytes: &[u8], from: usize) -> usize
     ensures { result ≡ next_place is_markup bytes.now from }
 {

@@ -111,9 +111,9 @@ fn is_text_line(bytes: &[u8], first: usize, end: usize) -> bool
     end < bytes.len() && first < end && bytes[end] == b'\n' && begins_text(bytes[first])
 }
 
-/// The extent of the lines of text at the start of a text, whose first line has `line` bytes and has ended. It
-/// is a call of its own, made once for all of them. The spaces of a line that hasn't ended would be counted
-/// again with each piece of it.
+/// The extent of the lines of text at the start of a text, whose first line has `line` bytes and has ended.
+/// It is a call of its own, made once for all of them. The spaces of a line that hasn't ended would be
+/// counted again with each piece of it.
 #[inline(never)]
 pub(crate) fn text_ahead(text: &str, line: usize) -> TextAhead
     requires first { IsFirstLine line text.now }
