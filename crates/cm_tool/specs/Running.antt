@@ -1,6 +1,5 @@
 -- What running a task, or reporting why there is none, writes and returns.
-use Rattle.std.specs.Prelude.{◌≡◌, ℕ, zero, List, ◌++◌, Result, Ok, Err, codes, String, string_bytes, ◌⊎◌}
-use Rattle.std.specs.declared.alloc.Global.{Global}
+use Rattle.std.specs.Prelude.{◌≡◌, ℕ, zero, List, ◌++◌, Result, Ok, Err, codes, string_bytes, ◌⊎◌}
 use Rattle.cm_text.specs.DeviceViews.{SinkView, SourceView}
 use Rattle.cm_text.specs.Limits.{LimitsView}
 use Rattle.cm_text.specs.Writing.{IsUnwritten, Wrote, WroteFront}
@@ -12,7 +11,7 @@ use Rattle.cm_tool.specs.declared.fault.Fault.TheVariants as faults
 use Rattle.cm_tool.specs.declared.fault.Fault.TheVariants.{ReadFailed, WriteFailed}
 use Rattle.cm_tool.specs.ExampleFiles.{opening_line}
 use Rattle.cm_tool.specs.FaultLines.{fault_text, line_of}
-use Rattle.cm_tool.specs.Shown.{shown, shown_lines}
+use Rattle.cm_tool.specs.Shown.{shown}
 use Rattle.cm_command.specs.declared.job.Job.{Job}
 use Rattle.cm_command.specs.declared.job.Job.TheVariants.{Render, Tree, TreeJson, Rewrite, Examples}
 use Rattle.cm_command.specs.declared.job.Stop.{Stop}
@@ -63,11 +62,6 @@ pub record RunsTo (answer : Result ℕ Fault) (status : ℕ) (job : Job) (limits
   pub told : status ≡ status_of answer
   pub reports : Reports job answer old-errors new-errors
 
--- The text about a wrong command line is written, in lines without nonprinting characters; or that memory ran out is reported.
-abbrev pub ReportsMistake : String Global → ℕ → SinkView → SinkView → Type 0
-ReportsMistake text status old new =
-    ((status ≡ 2) × Offered old new (shown_lines (string_bytes text))) ⊎ ((status ≡ 1) × OfferedLine faults.NoMemory old new)
-
 -- Help is written, with status 0, or the failure to write it is reported, with 1. A wrong command line is
 -- reported with 2, and exhausted memory with 1.
 abbrev pub Tells : Stop → ℕ → SinkView → SinkView → SinkView → SinkView → Type 0
@@ -75,7 +69,7 @@ Tells (Help text) status old new old-errors new-errors =
     ((status ≡ 0) × Wrote old new (string_bytes text) 0 × IsUnwritten old-errors new-errors)
     ⊎ ((status ≡ 1) × (written : ℕ) × WroteFront old new (string_bytes text) written × OfferedLine (WriteFailed written) old-errors new-errors)
 Tells (Wrong text) status old new old-errors new-errors =
-    IsUnwritten old new × ReportsMistake text status old-errors new-errors
+    (status ≡ 2) × IsUnwritten old new × Offered old-errors new-errors (string_bytes text)
 Tells NoMemory status old new old-errors new-errors =
     (status ≡ 1) × IsUnwritten old new × OfferedLine faults.NoMemory old-errors new-errors
 

@@ -1,5 +1,5 @@
 -- Texts as they are written to a terminal.
-use Rattle.std.specs.Prelude.{◌≡◌, ℕ, Bool, false, ◌||◌, ◌==◌, if◌then◌else◌, List, [], ◌∷◌, flat_map, IsUtf8}
+use Rattle.std.specs.Prelude.{◌≡◌, ℕ, Bool, false, ◌||◌, if◌then◌else◌, List, [], ◌∷◌, flat_map, IsUtf8}
 use Rattle.std.specs.Char.{is_control}
 use Rattle.std.specs.Char.Escape.{escape_unicode}
 use Rattle.std.specs.List.{list_any}
@@ -23,14 +23,6 @@ shown_char c = if is_nonprinting c then escape_unicode c else c ∷ []
 -- the text, with each character written like that
 abbrev pub shown : List ℕ → List ℕ
 shown text = encode_utf8_all (flat_map shown_char (chars text))
-
--- the same of a character of several lines, where a line feed is itself
-abbrev pub shown_in_lines : ℕ → List ℕ
-shown_in_lines c = if c == 10 then c ∷ [] else shown_char c
-
--- a text of several lines, with each character but a line feed written as in one line
-abbrev pub shown_lines : List ℕ → List ℕ
-shown_lines text = encode_utf8_all (flat_map shown_in_lines (chars text))
 
 -- no nonprinting character is left in what is shown: a law, proved
 abbrev pub ShownIsPrintable : Type 0

@@ -1,6 +1,6 @@
 -- Worked examples: texts as they are written to a terminal.
 use Rattle.std.specs.Prelude.{◌≡◌, [], ◌∷◌, codes}
-use Rattle.cm_tool.specs.Shown.{shown, shown_lines}
+use Rattle.cm_tool.specs.Shown.{shown}
 
 pub record ShownExamples : Type 0 where
   pub name : shown (codes "a b.md") ≡ codes "a b.md"
@@ -13,4 +13,3 @@ pub record ShownExamples : Type 0 where
   pub line_separator : shown (0xE2 ∷ 0x80 ∷ 0xA8 ∷ []) ≡ codes "\\u{2028}"
   pub override_of_direction : shown (0xE2 ∷ 0x80 ∷ 0xAE ∷ codes "a") ≡ codes "\\u{202e}a"
   pub tag : shown (0xF3 ∷ 0xA0 ∷ 0x80 ∷ 0x81 ∷ []) ≡ codes "\\u{e0001}"
-  pub lines : shown_lines (codes "a\u{1b}\nb\r\n") ≡ codes "a\\u{1b}\nb\\u{d}\n"

@@ -11,7 +11,7 @@ ghost use Rattle.cm_tool.specs.Running.{TellsUnopened, no_example_line, unopened
 use crate::example_files::{OPENING, report};
 use crate::fault::{Fault, LINE};
 use crate::outputs::{convert, list, rewrite, write_json};
-use crate::shown::{push_shown, shown_lines};
+use crate::shown::push_shown;
 use arrayvec::ArrayString;
 use cm_command::{Job, Stop, Task};
 use cm_text::{Sink, Source, WriteFailed, write_all};
@@ -106,9 +106,7 @@ pub fn run<R: Source, W: Sink, E: Sink>(
 }
 
 /// Reports why there is no task, and returns the exit status: 0 for help, which is written to `writer`, 2 for
-/// a wrong command line, and 1 for lack of memory or a failure of `writer`. Control and format characters of
-/// the text about a wrong command line are written as `\u{..}`, except line feeds. A failure of `errors` is
-/// ignored.
+/// a wrong command line, and 1 for lack of memory or a failure of `writer`. A failure of `errors` is ignored.
 pub fn tell<W: Sink, E: Sink>(stop: &Stop, writer: &mut W, errors: &mut E) -> u8
     requires writes { (W.seen writer.old).failed < 2 ^ 64 - 1 }
     requires tells { (E.seen errors.old).failed < 2 ^ 64 - 1 }
@@ -120,13 +118,10 @@ pub fn tell<W: Sink, E: Sink>(stop: &Stop, writer: &mut W, errors: &mut E) -> u8
             Ok(()) => 0,
             Err(WriteFailed { written }) => tell_fault(Fault::WriteFailed { written }, errors),
         },
-        Stop::Wrong(text) => match shown_lines(text) {
-            Ok(shown) => {
-                offer(errors, shown.as_bytes());
-                2
-            }
-            Err(_) => tell_fault(Fault::NoMemory, errors),
-        },
+        Stop::Wrong(text) => {
+            offer(errors, text.as_bytes());
+            2
+        }
         Stop::NoMemory => tell_fault(Fault::NoMemory, errors),
     }
 }

@@ -1,7 +1,7 @@
 //! Texts as they are written to a terminal.
 ghost use Rattle.std.specs.Prelude.{◌≡◌, ◌++◌, map, string_bytes, IfOk, OnOk};
 ghost use Rattle.std.specs.Str.{encode_utf8_all};
-ghost use Rattle.cm_tool.specs.Shown.{is_nonprinting, shown, shown_char, shown_in_lines, shown_lines};
+ghost use Rattle.cm_tool.specs.Shown.{is_nonprinting, shown, shown_char};
 
 use std::alloc::{AllocError, Global};
 use unicode::properties::GeneralCategory;
@@ -41,36 +41,6 @@ pub(crate) fn push_shown(out: &mut String, text: &str) -> Result<(), AllocError>
         push_shown_char(out, c)?;
     }
     Ok(())
-}
-
-/// Appends a character of a text of several lines: a line feed, or as `push_shown_char`.
-fn push_shown_in_lines(out: &mut String, c: char) -> Result<(), AllocError>
-    ensures { OnOk result (string_bytes out.new
-        ≡ string_bytes out.old ++ encode_utf8_all (shown_in_lines c)) }
-{
-    if c == '\n' {
-        return out.push(c);
-    }
-    push_shown_char(out, c)
-}
-
-/// Appends a text of several lines, with `\u{..}` in place of each nonprinting character but line feeds.
-fn push_shown_lines(out: &mut String, text: &str) -> Result<(), AllocError>
-    ensures { OnOk result (string_bytes out.new ≡ string_bytes out.old ++ shown_lines text.now) }
-{
-    for c in text.chars() {
-        push_shown_in_lines(out, c)?;
-    }
-    Ok(())
-}
-
-/// A text of several lines, with `\u{..}` in place of each nonprinting character but line feeds.
-pub(crate) fn shown_lines(text: &String) -> Result<String, AllocError>
-    ensures { IfOk result (λ shown. string_bytes shown ≡ shown_lines (string_bytes text.now)) }
-{
-    let mut shown = String::new(*text.allocator());
-    push_shown_lines(&mut shown, text)?;
-    Ok(shown)
 }
 
 /// The words, with `\u{..}` in place of each nonprinting character: each is on one line of a text that quotes

@@ -18,7 +18,7 @@ use Rattle.unicode.specs.GeneralCategory.{general_category}
 use Rattle.ucd_category.specs.declared.GeneralCategory.{GeneralCategory}
 use Rattle.ucd_category.specs.declared.GeneralCategory.TheVariants.{Format, LineSeparator, ParagraphSeparator}
 use Rattle.cm_text.proofs.lemmas.CharacterLemmas.{other_category}
-use Rattle.cm_tool.specs.Shown.{ShownIsPrintable, is_formatting, is_nonprinting, shown_char}
+use Rattle.cm_tool.specs.Shown.{ShownIsPrintable, is_formatting, is_nonprinting, shown, shown_char}
 use lib.Utf8.{encode, encodes, low_scalar, scalar, scalars}
 
 pub control_prints_nothing : (c : ℕ) → is_control c ≡ true → true ≡ is_nonprinting c
@@ -34,20 +34,20 @@ pub not_formatting : (g : GeneralCategory) → g ≢ Format → g ≢ LineSepara
 not_formatting g a b d = rw (other_category g Format a, other_category g LineSeparator b, other_category g ParagraphSeparator d) refl
 
 -- one character of a text
-pub shown_put : (by : ℕ → List ℕ) (made rest behind whole : List ℕ) (c : ℕ) → IsUtf8 rest → rest ≡ encode c ++ behind → made ++ encodes (flat_map by (chars rest)) ≡ whole
-    → (made ++ encodes (by c)) ++ encodes (flat_map by (chars behind)) ≡ whole
-shown_put by made rest behind whole c utf8 is so_far =
-    append_assoc made (encodes (by c)) (encodes (flat_map by (chars behind)))
-    ∙ ap (λ t. made ++ t) (sym (encodes-append (by c) (flat_map by (chars behind)))
-    ∙ ap (λ cs. encodes (flat_map by cs)) (sym (chars_past_char rest behind c utf8 is)))
+pub shown_put : (made rest behind whole : List ℕ) (c : ℕ) → IsUtf8 rest → rest ≡ encode c ++ behind → made ++ shown rest ≡ whole
+    → (made ++ encodes (shown_char c)) ++ shown behind ≡ whole
+shown_put made rest behind whole c utf8 is so_far =
+    append_assoc made (encodes (shown_char c)) (shown behind)
+    ∙ ap (λ t. made ++ t) (sym (encodes-append (shown_char c) (flat_map shown_char (chars behind)))
+    ∙ ap (λ cs. encodes (flat_map shown_char cs)) (sym (chars_past_char rest behind c utf8 is)))
     ∙ so_far
 
 -- its end
-pub shown_end : (by : ℕ → List ℕ) (made rest whole : List ℕ) → length rest ≡ 0 → made ++ encodes (flat_map by (chars rest)) ≡ whole → made ≡ whole
+pub shown_end : (made rest whole : List ℕ) → length rest ≡ 0 → made ++ shown rest ≡ whole → made ≡ whole
 unfolding chars
-shown_end by made [] whole none so_far =
-    sym (append-nil made) ∙ ap (λ cs. made ++ encodes (flat_map by cs)) (sym (chars_from_encodes [] [] IsUtf8-nil refl)) ∙ so_far
-shown_end by made (b ∷ rest) whole none so_far = absurd (omega (arith, none))
+shown_end made [] whole none so_far =
+    sym (append-nil made) ∙ ap (λ cs. made ++ encodes (flat_map shown_char cs)) (sym (chars_from_encodes [] [] IsUtf8-nil refl)) ∙ so_far
+shown_end made (b ∷ rest) whole none so_far = absurd (omega (arith, none))
 
 -- ---- all that is shown is printable
 

@@ -97,7 +97,6 @@ returns-clause-shown c = record {
   line_separator = refl;
   override_of_direction = refl;
   tag = refl;
-  lines = refl;
 }
 
 pub returns-clause-places : goal.returns-clause-places
