@@ -40,7 +40,7 @@ pub mod WaitLemmas
 pub mod ClosingLemmas
 pub mod SegmentLemmas
 pub mod PassLemmas
-pub mod OpenerLemmas
+pub mod SlotLemmas
 pub mod StateLemmas
 pub mod PairDepthLemmas
 pub mod CloserLoopLemmas
@@ -53,6 +53,8 @@ pub mod TextLemmas
 pub mod PlainLemmas
 pub mod CodeLemmas
 pub mod MissingEndsLemmas
+pub mod MissingForms
+pub mod FormStarts
 pub mod LabelLemmas
 pub mod LinkLemmas
 pub mod DeeperLemmas

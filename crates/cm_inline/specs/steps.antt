@@ -7,12 +7,12 @@ pub mod Links
 pub mod Marks
 pub mod Missing
 pub mod Nesting
-pub mod Openers
 pub mod pairing
 pub mod Pairs
 pub mod Prelude
 pub mod Reads
 pub mod Runs
 pub mod Searching
+pub mod Slots
 pub mod Standalone
 pub mod Writing

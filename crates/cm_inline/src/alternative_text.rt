@@ -14,7 +14,7 @@ use std::alloc::AllocError;
 /// Adds what a mark contributes.
 fn push_mark(html: &mut Pages, source: &str, reader: &Reader, mark: Mark) -> Result<(), AllocError>
     requires { (targets : Targets) × IsMarkIn source.now targets reader.now mark }
-    ensures { OnOk result ((link : ℕ) (targets : Targets) → is_end_of link mark.kind ≡ false
+    ensures pushed { OnOk result ((link : ℕ) (targets : Targets) → is_end_of link mark.kind ≡ false
         → IsMarkIn source.now targets reader.now mark
         → Adds (Alternative link) html.old (mark_events source.now targets reader.now mark) html.new) }
 {
@@ -28,7 +28,7 @@ fn push_mark(html: &mut Pages, source: &str, reader: &Reader, mark: Mark) -> Res
         Kind::Autolink { .. } => html.push_escaped(part(source, mark.at + 1, mark.end - 1)),
         Kind::Soft => html.push_str(" "),
         Kind::Hard => html.push_str(" "),
-        Kind::Run { number } => push_left(html, reader.runs.runs[number as usize].run),
+        Kind::Run { number } => push_left(html, reader.runs.run(number).run),
         Kind::Start { .. } => Ok(()),
         Kind::End { .. } => Ok(()),
     }

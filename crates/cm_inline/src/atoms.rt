@@ -1,10 +1,12 @@
 //! The atoms of a leaf's source: what starts at a place (CommonMark 0.31.2, chapter 6).
 ghost use Rattle.std.specs.Prelude.{◌≡◌, ◌≢◌, ◌==◌, ◌+◌, ◌<◌, ◌≤◌, ◌^◌, ◌&&◌, ◌||◌, not, if◌then◌else◌};
-ghost use Rattle.std.specs.Prelude.{false, length, drop, slice_index, nat_le, IfOk, OnOk, IfSome, IsUtf8};
-ghost use Rattle.cm_inline.specs.steps.Prelude.{IsCharBoundary, raw_html, reading_of, whole_of, Rules, Knows};
+ghost use Rattle.std.specs.Prelude.{false, None, length, drop, slice_index, nat_le, option_map};
+ghost use Rattle.std.specs.Prelude.{IfOk, OnOk, IfSome};
+ghost use Rattle.cm_inline.specs.steps.Prelude.{IsCharBoundary, raw_html, Rules, Knows};
+ghost use Rattle.cm_scan.specs.spans.Reach.{html_reach, needed};
+ghost use Rattle.cm_inline.specs.steps.Missing.{IsPast, spare, html_room};
 ghost use Rattle.cm_inline.specs.steps.Prelude.{Puts, Stands, IsTextTo, Begins, byte_of, is_escaped};
-ghost use Rattle.cm_inline.specs.steps.Prelude.{right_bracket, backtick, less_than, backslash, ampersand};
-ghost use Rattle.cm_inline.specs.steps.Prelude.{space, exclamation_mark, tilde, is_markup};
+ghost use Rattle.cm_inline.specs.steps.Prelude.{byte, is_markup};
 ghost use Rattle.cm_inline.specs.declared.marks.Kind.TheVariants.{Soft, Hard};
 
 use crate::brackets::Reader;
@@ -12,10 +14,11 @@ use crate::code::content_between;
 use crate::delimiter_runs::{DelimiterRun, Marker};
 use crate::flanking::run_between;
 use crate::marks::Kind;
-use crate::missing_ends::{MissingEnds, form_at};
-use cm_scan::{after_run, autolink_by, code_span, is_next, raw_html_by, trim_end_spaces};
-use cm_text::{Chars, Rules, is_ascii_punct, next_marked, reference_at};
+use crate::missing_ends::{MissingEnds, form_of};
+use cm_scan::{after_raw_html, after_run, autolink_by, code_span, is_next, trim_end_spaces};
+use cm_text::{Chars, Looks, Rest, Rules, is_ascii_punct, next_marked, reference_at};
 use std::alloc::{AllocError, Global};
+use std::sync::ledger::Ledger;
 
 /// What starts at a place of a source.
 #[derive(Clone, Copy)]
@@ -43,7 +46,7 @@ pub(crate) enum Atom {
 #[inline(always)]
 pub(crate) fn text_end(source: &str, at: usize) -> usize
     requires { IsCharBoundary source.now at }
-    ensures { IsTextTo source.now at result }
+    ensures text { IsTextTo source.now at result }
 {
     let end = next_marked(source.as_bytes(), at);
     if end < source.len() && source.as_bytes()[end] == b'\n' {
@@ -54,25 +57,26 @@ pub(crate) fn text_end(source: &str, at: usize) -> usize
 
 /// Reads what starts at a place where no `]` is, and returns where it ends.
 #[inline(always)]
-pub(crate) fn read_atom(
+pub(crate) fn read_atom<L: Ledger>(
     alloc: Global,
     rules: Rules,
     source: &str,
     at: usize,
     reader: &mut Reader,
+    looks: &mut Looks<L>,
 ) -> Result<usize, AllocError>
     requires short { length source.now < 2 ^ 32 }
     requires within { at < length source.now }
     requires boundary { IsCharBoundary source.now at }
     requires ascii { slice_index source.now at < 128 }
-    requires other { slice_index source.now at ≢ right_bracket }
+    requires other { slice_index source.now at ≢ byte "]" }
     requires knows { Knows source.now reader.old.ends }
-    requires few { length reader.old.runs.runs.items ≤ at }
-    ensures { IfOk result (λ end. Puts rules source.now at end reader.old reader.new) }
+    requires few { length reader.old.runs.list.runs ≤ at }
+    ensures puts { IfOk result (λ end. Puts rules source.now at end reader.old reader.new) }
 {
     let read = match source.as_bytes()[at] {
         b'`' => backticks(alloc, source, at, &mut reader.ends)?,
-        b'<' => angle(rules, source, at, &mut reader.ends),
+        b'<' => angle(rules, source, at, &mut reader.ends, looks),
         b'\\' => backslash(source, at),
         b'&' => ampersand(source, at),
         b'\n' => (Atom::LineFeed, at + 1),
@@ -103,7 +107,7 @@ fn byte(source: &str, at: usize) -> (Atom, usize)
     requires boundary { IsCharBoundary source.now at }
     requires ascii { slice_index source.now at < 128 }
     requires lone { is_markup (slice_index source.now at) ≡ false }
-    ensures { (rules : Rules) → Begins rules source.now at result.0 result.1 }
+    ensures atom { (rules : Rules) → Begins rules source.now at result.0 result.1 }
 {
     if is_escaped(source.as_bytes()[at]) {
         return (Atom::Escaped, at + 1);
@@ -123,8 +127,8 @@ fn put(
     requires short { length source.now < 2 ^ 32 }
     requires begins { Begins rules source.now at read.0 read.1 }
     requires knows { Knows source.now reader.old.ends }
-    requires few { length reader.old.runs.runs.items ≤ at }
-    ensures { IfOk result (λ end. Puts rules source.now at end reader.old reader.new) }
+    requires few { length reader.old.runs.list.runs ≤ at }
+    ensures puts { IfOk result (λ end. Puts rules source.now at end reader.old reader.new) }
 {
     let (atom, end) = read;
     match atom {
@@ -164,7 +168,7 @@ fn backticks(
     at: usize,
     ends: &mut MissingEnds,
 ) -> Result<(Atom, usize), AllocError>
-    requires stands { Stands source.now at backtick }
+    requires stands { Stands source.now at (byte "`") }
     requires knows { Knows source.now ends.old }
     ensures atom { IfOk result (λ read.
         (rules : Rules) → Begins rules source.now at read.0 read.1) }
@@ -191,58 +195,90 @@ fn backticks(
 }
 
 /// An autolink, raw HTML, or `<` as text (6.5 Autolinks, 6.6 Raw HTML).
-fn angle(rules: Rules, source: &str, at: usize, ends: &mut MissingEnds) -> (Atom, usize)
-    requires stands { Stands source.now at less_than }
+fn angle<L: Ledger>(
+    rules: Rules,
+    source: &str,
+    at: usize,
+    ends: &mut MissingEnds,
+    looks: &mut Looks<L>,
+) -> (Atom, usize)
+    requires stands { Stands source.now at (byte "<") }
     requires knows { Knows source.now ends.old }
     ensures atom { Begins rules source.now at result.0 result.1 }
     ensures knows { Knows source.now ends.new }
+    ensures past { IsPast source.now at ends.old → IsPast source.now (at + 1) ends.new }
+    ensures looks { IsPast source.now at ends.old → looks.new + spare source.now ends.new + at
+        ≤ looks.old + spare source.now ends.old + html_room rules source.now at + result.1 }
 {
     if let Some((link, end)) = autolink_by(rules, source, at) {
         let is_address = link.is_address;
         return (Atom::Whole(Kind::Autolink { is_address }), end);
     }
-    match raw_html(rules, source, at, ends) {
-        Some((_, end)) => (Atom::Whole(Kind::Html), end),
+    match raw_html(rules, source, at, ends, looks) {
+        Some(end) => (Atom::Whole(Kind::Html), end),
         None => (Atom::Escaped, at + 1),
     }
 }
 
-/// The raw HTML at a place, if the rules have any. An end that is known to be missing isn't searched for.
-fn raw_html<'a>(
+/// Where the raw HTML at a place ends, if the rules have any. An end that is known to be missing isn't searched
+/// for, and what was searched for in vain is remembered.
+fn raw_html<L: Ledger>(
     rules: Rules,
-    source: &'a str,
+    source: &str,
     at: usize,
     ends: &mut MissingEnds,
-) -> Option<(&'a str, usize)>
-    requires stands { Stands source.now at less_than }
+    looks: &mut Looks<L>,
+) -> Option<usize>
+    requires stands { Stands source.now at (byte "<") }
     requires knows { Knows source.now ends.old }
-    ensures read { reading_of source.now result
-        ≡ whole_of (drop at source.now) (raw_html rules (drop at source.now)) }
-    ensures utf8 { IfSome result (λ read. IsUtf8 read.0.now) }
-    ensures boundary { IfSome result (λ read. IsCharBoundary source.now read.1) }
+    ensures read { option_map (λ end. drop end source.now) result ≡ raw_html rules (drop at source.now) }
+    ensures boundary { IfSome result (λ end. IsCharBoundary source.now end) }
+    ensures further { IfSome result (λ end. (at < end) × (end ≤ length source.now)) }
     ensures knows { Knows source.now ends.new }
+    ensures past { IsPast source.now at ends.old → IsPast source.now (at + 1) ends.new }
+    ensures some { IfSome result (λ end. (ends.new ≡ ends.old)
+        × (looks.new + at ≤ looks.old + html_room rules source.now at + end)) }
+    ensures none { result ≡ None → IsPast source.now at ends.old → looks.new + spare source.now ends.new
+        ≤ looks.old + spare source.now ends.old + html_room rules source.now at }
 {
     if !rules.raw_html() {
         return None;
     }
-    let Some(form) = form_at(rules, source, at) else {
-        return raw_html_by(rules, source, at);
+    let inside = Rest::of(source.as_bytes()).after(at + 1);
+    let Some(form) = form_of(rules, &inside, looks) else {
+        return html_end(rules, source, at, looks);
     };
     if ends.is_missing(form, at) {
         return None;
     }
-    let html = raw_html_by(rules, source, at);
-    if html.is_none() {
-        ends.look_for_end(form, source, at);
+    if let Some(end) = html_end(rules, source, at, looks) {
+        return Some(end);
     }
-    html
+    ends.remember(form, at);
+    None
+}
+
+/// Where the raw HTML at a place ends, if the rules have any.
+fn html_end<L: Ledger>(rules: Rules, source: &str, at: usize, looks: &mut Looks<L>) -> Option<usize>
+    requires { at ≤ length source.now }
+    ensures read { option_map (λ end. drop end source.now) result ≡ raw_html rules (drop at source.now) }
+    ensures boundary { IfSome result (λ end. IsCharBoundary source.now end) }
+    ensures further { IfSome result (λ end. (at < end) × (end ≤ length source.now)) }
+    ensures some { IfSome result (λ end.
+        looks.new + at ≤ looks.old + html_reach rules.older (drop at source.now) + end) }
+    ensures none { result ≡ None → looks.new ≤ looks.old + needed rules.older (drop at source.now)
+        + html_reach rules.older (drop at source.now) }
+{
+    let text = Rest::of(source.as_bytes()).after(at);
+    let rest = after_raw_html(rules, &text, looks)?;
+    Some(source.len() - rest.len())
 }
 
 /// A hard line break, an escaped character, or a backslash as text (6.7 Hard
 /// line breaks, 2.4 Backslash escapes).
 fn backslash(source: &str, at: usize) -> (Atom, usize)
-    requires { Stands source.now at backslash }
-    ensures { (rules : Rules) → Begins rules source.now at result.0 result.1 }
+    requires { Stands source.now at (byte "\\") }
+    ensures atom { (rules : Rules) → Begins rules source.now at result.0 result.1 }
 {
     if is_next(source.as_bytes(), at + 1, b'\n') {
         return (Atom::Whole(Kind::Hard), at + 2);
@@ -255,8 +291,8 @@ fn backslash(source: &str, at: usize) -> (Atom, usize)
 
 /// A reference, or `&` as text (2.5 Entity and numeric character references).
 fn ampersand(source: &str, at: usize) -> (Atom, usize)
-    requires { Stands source.now at ampersand }
-    ensures { (rules : Rules) → Begins rules source.now at result.0 result.1 }
+    requires { Stands source.now at (byte "&") }
+    ensures atom { (rules : Rules) → Begins rules source.now at result.0 result.1 }
 {
     match reference_at(source, at) {
         Some((chars, end)) => (Atom::Reference(chars), end),
@@ -266,8 +302,8 @@ fn ampersand(source: &str, at: usize) -> (Atom, usize)
 
 /// A line feed with the spaces before it, or one space as text (6.7 Hard line breaks, 6.8 Soft line breaks).
 fn line_break(source: &str, at: usize) -> (Atom, usize)
-    requires { Stands source.now at space }
-    ensures { (rules : Rules) → Begins rules source.now at result.0 result.1 }
+    requires { Stands source.now at (byte " ") }
+    ensures atom { (rules : Rules) → Begins rules source.now at result.0 result.1 }
 {
     let feed = after_run(b' ', source, at);
     if !is_next(source.as_bytes(), feed, b'\n') {
@@ -285,8 +321,8 @@ fn break_after(spaces: usize) -> Kind
 
 /// `![`, or `!` as text (6.4 Images).
 fn exclamation_mark(source: &str, at: usize) -> (Atom, usize)
-    requires { Stands source.now at exclamation_mark }
-    ensures { (rules : Rules) → Begins rules source.now at result.0 result.1 }
+    requires { Stands source.now at (byte "!") }
+    ensures atom { (rules : Rules) → Begins rules source.now at result.0 result.1 }
 {
     if is_next(source.as_bytes(), at + 1, b'[') {
         return (Atom::Opener { image: true }, at + 2);
@@ -297,7 +333,7 @@ fn exclamation_mark(source: &str, at: usize) -> (Atom, usize)
 /// Whether `count` of a marker are a delimiter run: tildes are one only if strikethrough is on and there are
 /// two.
 fn is_run(rules: Rules, marker: Marker, count: usize) -> bool
-    ensures { result ≡ (not (byte_of marker == tilde) || rules.strike && count == 2) }
+    ensures { result ≡ (not (byte_of marker == byte "~") || rules.strike && count == 2) }
 {
     marker.byte() != b'~' || rules.strike() && count == 2
 }
@@ -306,7 +342,7 @@ fn is_run(rules: Rules, marker: Marker, count: usize) -> bool
 #[inline(always)]
 fn run(rules: Rules, source: &str, marker: Marker, at: usize) -> (Atom, usize)
     requires { Stands source.now at (byte_of marker) }
-    ensures { Begins rules source.now at result.0 result.1 }
+    ensures atom { Begins rules source.now at result.0 result.1 }
 {
     let end = after_run(marker.byte(), source, at);
     if !is_run(rules, marker, end - at) {

@@ -1,7 +1,7 @@
 //! Links and images by their brackets (CommonMark 0.31.2, 6.3 Links, 6.4 Images).
 ghost use Rattle.std.specs.Prelude.{◌≡◌, ◌≢◌, ◌+◌, ◌<◌, ◌^◌, ◌++◌, [], ◌∷◌, ◌||◌, if◌then◌else◌};
 ghost use Rattle.std.specs.Prelude.{List, length, set, get_or, not, nat_lt, IfOk, OnOk, IfSome, Err};
-ghost use Rattle.cm_text.specs.Bytes.{right_bracket};
+ghost use Rattle.std.specs.Str.{byte};
 ghost use Rattle.cm_scan.specs.inlines.Pairing.{pair_all};
 ghost use Rattle.cm_inline.specs.declared.fault.InlineFault.TheVariants.{InlinesTooDeep, SourceTooLong};
 ghost use Rattle.cm_inline.specs.declared.marks.Kind.TheVariants.{Plain, Start, End};
@@ -51,7 +51,7 @@ pub(crate) struct Reader {
     pub(crate) links: Vec<Link>,
     /// The brackets that nothing was made of yet.
     pub(crate) brackets: Vec<Bracket>,
-    /// The number of marks up to the last one that ends a link. A `[` followed by such a mark makes no link.
+    /// The number of marks up to the last one that ends a link. A `[` among them is inactive: it makes no link.
     pub(crate) links_end: usize,
     /// Whether a line feed with no space before it is wanted as a mark: HTML has it as it is.
     pub(crate) lines: bool,
@@ -75,10 +75,10 @@ impl Reader {
     /// Discards what was read, and starts with another source in the same memory.
     pub(crate) fn restart(&mut self, source: &str, lines: bool)
         ensures marks { self.new.marks.items ≡ [] }
-        ensures runs { self.new.runs.runs.items ≡ [] }
+        ensures runs { self.new.runs.list.runs ≡ [] }
         ensures waiting { self.new.runs.waiting.items ≡ [] }
         ensures pairs { self.new.runs.pairs.items ≡ [] }
-        ensures looks { self.new.runs.openers.looks ≡ 0 }
+        ensures looks { self.new.runs.list.looks ≡ 0 }
         ensures links { self.new.links.items ≡ [] }
         ensures brackets { self.new.brackets.items ≡ [] }
         ensures links_end { self.new.links_end ≡ 0 }
@@ -152,7 +152,7 @@ impl Reader {
         leaf: Leaf<'_>,
         at: usize,
     ) -> Result<usize, InlineFault>
-        requires stands { Stands leaf.source.now at right_bracket }
+        requires stands { Stands leaf.source.now at (byte "]") }
         requires reading { ReadingOf rules leaf at self.old }
         ensures reading { IfOk result (λ end. ReadingOf rules leaf.entry end self.new) }
         ensures lines { self.new.lines ≡ self.old.lines }
@@ -173,7 +173,7 @@ impl Reader {
     }
 
     /// Whether a link follows a bracket, on its own or in an image.
-    fn has_link_behind(&self, bracket: Bracket) -> bool
+    fn has_link_after(&self, bracket: Bracket) -> bool
         ensures { result ≡ nat_lt bracket.mark self.now.links_end }
     {
         bracket.mark < self.links_end
@@ -192,7 +192,7 @@ impl Reader {
             (defined_by leaf.entry) leaf.entry.source.now bracket self.now.links_end at) }
         ensures place { IfOk result (λ found. IfSome found (λ e. (at < e.end) × IsPlaced leaf.entry e)) }
     {
-        if !bracket.image && self.has_link_behind(bracket) {
+        if !bracket.image && self.has_link_after(bracket) {
             return Ok(None);
         }
         link_end(rules, leaf, bracket.end, at)
@@ -208,7 +208,7 @@ impl Reader {
         at: usize,
     ) -> Result<(), InlineFault>
         requires pass { CanPass bracket.waiting self.old.runs }
-        requires chained { AreChained (runs_in self.old.runs.runs.items)
+        requires chained { AreChained (runs_in self.old.runs.list.runs)
             (pairs_in self.old.runs.pairs.items) }
         requires there { bracket.mark < length self.old.marks.items }
         requires few { length self.old.links.items < 2 ^ 32 }
@@ -228,15 +228,15 @@ impl Reader {
         ensures passes { OnOk result ((front inside : List Segment)
             → WaitFrom bracket.waiting self.old.runs front inside
             → AllPaired self.old.runs self.new.runs front inside) }
-        ensures runs { OnOk result (SameRuns self.old.runs.runs.items self.new.runs.runs.items) }
+        ensures runs { OnOk result (SameRuns self.old.runs.list.runs self.new.runs.list.runs) }
         ensures chained { OnOk result
-            (AreChained (runs_in self.new.runs.runs.items) (pairs_in self.new.runs.pairs.items)) }
+            (AreChained (runs_in self.new.runs.list.runs) (pairs_in self.new.runs.pairs.items)) }
         ensures deep { result ≡ Err InlinesTooDeep → (front inside : List Segment)
             → WaitFrom bracket.waiting self.old.runs front inside
             → limit < items_depth (pair_all (items_in inside)) }
         ensures short { result ≢ Err SourceTooLong }
     {
-        let holds_link = !bracket.image || self.has_link_behind(bracket);
+        let holds_link = !bracket.image || self.has_link_after(bracket);
         self.runs.pair_from(bracket.waiting, limit)?;
         let number = self.links.len() as u32;
         self.add_link(Link {

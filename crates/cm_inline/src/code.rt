@@ -1,8 +1,8 @@
 //! The content of a code span (CommonMark 0.31.2, 6.1 Code spans).
 ghost use Rattle.std.specs.Prelude.{◌≡◌, ◌==◌, ◌||◌, IfOk};
 ghost use Rattle.std.specs.List.{list_all, slice_range};
+ghost use Rattle.std.specs.Str.{byte};
 ghost use Rattle.cm_scan.specs.spans.CodeSpans.{one_line, stripped};
-ghost use Rattle.cm_text.specs.Bytes.{line_feed, space};
 ghost use Rattle.cm_text.specs.Search.{next_place};
 ghost use Rattle.cm_inline.specs.steps.Marks.{is_changed_in_code};
 ghost use Rattle.cm_inline.specs.steps.Standalone.{IsBetween};
@@ -45,7 +45,7 @@ impl ByteKind for Changed {
 /// backtick; the length if there is none.
 #[inline(always)]
 pub(crate) fn next_changed(bytes: &[u8], from: usize) -> usize
-    ensures { result ≡ next_place is_changed_in_code bytes.now from }
+    ensures next { result ≡ next_place is_changed_in_code bytes.now from }
 {
     next_of::<Changed>(bytes, from)
 }
@@ -53,7 +53,7 @@ pub(crate) fn next_changed(bytes: &[u8], from: usize) -> usize
 /// Whether a byte is a space, or a line feed, which becomes one.
 #[inline(always)]
 fn is_space(b: u8) -> bool
-    ensures { result ≡ (b == space || b == line_feed) }
+    ensures { result ≡ (b == byte " " || b == byte "\n") }
 {
     b == b' ' || b == b'\n'
 }
@@ -61,7 +61,7 @@ fn is_space(b: u8) -> bool
 /// Whether each byte is a space or a line feed.
 #[inline(always)]
 fn are_spaces(bytes: &[u8]) -> bool
-    ensures { result ≡ list_all (λ b. b == space || b == line_feed) bytes.now }
+    ensures spaces { result ≡ list_all (λ b. b == byte " " || b == byte "\n") bytes.now }
 {
     bytes.iter().all(|b| is_space(*b))
 }
@@ -87,7 +87,7 @@ pub(crate) fn content_between(source: &str, from: usize, to: usize) -> (usize, u
 
 /// A text with its line feeds as spaces.
 pub(crate) fn one_line(spare: &mut Spare, text: &str) -> Result<Text, AllocError>
-    ensures { IfOk result (λ line. line ≡ one_line text.now) }
+    ensures line { IfOk result (λ line. line ≡ one_line text.now) }
 {
     let mut line = spare.string_for(text.len())?;
     let mut rest = text;

@@ -70,7 +70,7 @@ pub(crate) fn run_between(
     requires short { end < 2 ^ 32 }
     requires start { IsCharBoundary source.now at }
     requires end { IsCharBoundary source.now end }
-    ensures { run_of result ≡ run_between rules (byte_of marker) (end - at)
+    ensures run { run_of result ≡ run_between rules (byte_of marker) (end - at)
         (reverse (take at source.now)) (drop end source.now) }
 {
     let before = Neighbour::of(rules, last_character(&source[..at]));

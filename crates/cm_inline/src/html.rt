@@ -28,12 +28,12 @@ fn is_unpaired(run: Run) -> bool
 /// Whether the HTML of a mark is the source itself.
 #[inline(always)]
 fn is_text(reader: &Reader, mark: Mark) -> bool
-    requires { IsNumbered reader.now.runs.runs.items mark.kind }
-    ensures { result ≡ is_text reader.now.runs.runs.items mark.kind }
+    requires { IsNumbered reader.now.runs.list.runs mark.kind }
+    ensures { result ≡ is_text reader.now.runs.list.runs mark.kind }
 {
     match mark.kind {
         Kind::Plain => true,
-        Kind::Run { number } => is_unpaired(reader.runs.runs[number as usize]),
+        Kind::Run { number } => is_unpaired(reader.runs.run(number)),
         _ => false,
     }
 }
@@ -49,7 +49,7 @@ fn push_one(
     mark: Mark,
 ) -> Result<(), AllocError>
     requires { IsMarkIn source.now definitions.now reader.now mark }
-    ensures { OnOk result (write_all (page html.old Tags)
+    ensures pushed { OnOk result (write_all (page html.old Tags)
         (mark_events source.now definitions.now reader.now mark)
         ≡ page html.new (mode_after reader.now.links.items mark.kind)) }
 {
@@ -130,7 +130,7 @@ pub(crate) fn push_marks(
     reader: &Reader,
 ) -> Result<(), AllocError>
     requires { IsSettled false source.now definitions.now reader.now }
-    ensures { OnOk result (html.new
+    ensures pushed { OnOk result (html.new
         ≡ html.old ++ (write_all (page [] Tags) (events_in source.now definitions.now reader.now)).html) }
 {
     let marks = reader.marks.as_slice();

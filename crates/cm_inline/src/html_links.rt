@@ -27,7 +27,7 @@ pub(crate) fn push_autolink(
     is_address: bool,
     text: &str,
 ) -> Result<(), AllocError>
-    ensures { OnOk result (html.new ≡ html.old ++ autolink_html is_address text.now) }
+    ensures pushed { OnOk result (html.new ≡ html.old ++ autolink_html is_address text.now) }
 {
     if is_address {
         let mut dest = String::from_str(alloc, "mailto:")?;
@@ -49,7 +49,7 @@ fn push_start_of_link(
     target: Target,
 ) -> Result<(), AllocError>
     requires { IsTargetIn source.now definitions.now target }
-    ensures { OnOk result (html.new
+    ensures pushed { OnOk result (html.new
         ≡ html.old ++ link_start (target_in source.now definitions.now target).0
         (target_in source.now definitions.now target).1) }
 {
@@ -83,7 +83,7 @@ fn push_start_of_image(
     target: Target,
 ) -> Result<(), AllocError>
     requires { IsTargetIn source.now definitions.now target }
-    ensures { OnOk result (html.new
+    ensures pushed { OnOk result (html.new
         ≡ html.old ++ image_start (target_in source.now definitions.now target).0) }
 {
     match target {
@@ -104,7 +104,7 @@ fn push_end_of_image(
     target: Target,
 ) -> Result<(), AllocError>
     requires { IsTargetIn source.now definitions.now target }
-    ensures { OnOk result (html.new ≡ html.old ++ codes "\""
+    ensures pushed { OnOk result (html.new ≡ html.old ++ codes "\""
         ++ title_html (target_in source.now definitions.now target).1 ++ codes " />") }
 {
     match target {
@@ -136,7 +136,7 @@ pub(crate) fn push_start(
     link: Link,
 ) -> Result<(), AllocError>
     requires { IsTargetIn source.now definitions.now link.target }
-    ensures { OnOk result ((number : ℕ) → html.new
+    ensures pushed { OnOk result ((number : ℕ) → html.new
         ≡ html.old ++ start_html (link_tag source.now definitions.now number link)) }
 {
     if link.image {
@@ -156,7 +156,7 @@ pub(crate) fn push_end(
     link: Link,
 ) -> Result<(), AllocError>
     requires { IsTargetIn source.now definitions.now link.target }
-    ensures { OnOk result ((number : ℕ) → html.new
+    ensures pushed { OnOk result ((number : ℕ) → html.new
         ≡ html.old ++ end_html (link_tag source.now definitions.now number link)) }
 {
     if link.image {

@@ -7,7 +7,8 @@ ghost use Rattle.cm_inline.specs.steps.Runs.{tag_in, runs_in, pairs_in, paired_r
 ghost use Rattle.cm_inline.specs.steps.Writing.{Adds, ComeBefore};
 
 use crate::html_texts::push_left;
-use crate::runs::{Emphasis, Pair, Runs};
+use crate::pairing::{Emphasis, Pair};
+use crate::runs::Runs;
 use cm_html::{Element, Pages};
 use std::alloc::AllocError;
 
@@ -66,12 +67,12 @@ fn push_starts(html: &mut Pages, pairs: &[Pair], opened: u32) -> Result<(), Allo
 /// Adds the HTML of a run: the ends of pairs, what is left, and the starts of pairs.
 #[inline(always)]
 pub(crate) fn push_run(html: &mut Pages, runs: &Runs, number: u32) -> Result<(), AllocError>
-    requires number { number < length runs.now.runs.items }
-    requires chained { AreChained (runs_in runs.now.runs.items) (pairs_in runs.now.pairs.items) }
+    requires number { number < length runs.now.list.runs }
+    requires chained { AreChained (runs_in runs.now.list.runs) (pairs_in runs.now.pairs.items) }
     ensures { OnOk result (Adds Tags html.old (run_events (pairs_in runs.now.pairs.items) number
-        (paired_run (run_at runs.now.runs.items number))) html.new) }
+        (paired_run (run_at runs.now.list.runs number))) html.new) }
 {
-    let run = runs.runs[number as usize];
+    let run = runs.run(number);
     push_ends(html, runs.pairs.as_slice(), run.from, run.to)?;
     push_left(html, run.run)?;
     push_starts(html, runs.pairs.as_slice(), run.opened)

@@ -2,7 +2,7 @@
 ghost use Rattle.std.specs.Prelude.{◌≡◌, ◌++◌, [], ◌∷◌, true, encode_utf8, replicate, OnOk};
 ghost use Rattle.std.specs.List.{slice_range};
 ghost use Rattle.cm_html.specs.Escape.{escape};
-ghost use Rattle.cm_html.specs.Html.{code_span_html};
+ghost use Rattle.cm_html.specs.steps.HtmlParts.{code_span_html};
 ghost use Rattle.cm_scan.specs.spans.CodeSpans.{one_line};
 ghost use Rattle.cm_inline.specs.steps.Marks.{is_escaped};
 ghost use Rattle.cm_inline.specs.steps.Runs.{byte_of};
@@ -24,7 +24,7 @@ pub(crate) fn push_text(
     to: usize,
 ) -> Result<(), AllocError>
     requires { IsBetween source.now from to }
-    ensures { OnOk result (html.new ≡ html.old ++ slice_range source.now from to) }
+    ensures pushed { OnOk result (html.new ≡ html.old ++ slice_range source.now from to) }
 {
     if from == to {
         return Ok(());
@@ -57,7 +57,7 @@ pub(crate) fn push_character(html: &mut Pages, character: char) -> Result<(), Al
 
 /// Adds a text, with spaces for its line feeds.
 pub(crate) fn push_one_line(html: &mut Pages, text: &str) -> Result<(), AllocError>
-    ensures { OnOk result (html.new ≡ html.old ++ escape (one_line text.now)) }
+    ensures pushed { OnOk result (html.new ≡ html.old ++ escape (one_line text.now)) }
 {
     let mut rest = text;
     while let Some(at) = memchr(b'\n', rest.as_bytes()) {
@@ -71,7 +71,7 @@ pub(crate) fn push_one_line(html: &mut Pages, text: &str) -> Result<(), AllocErr
 
 /// Adds a code span, with spaces for the line feeds in its text.
 pub(crate) fn push_code_span(html: &mut Pages, text: &str) -> Result<(), AllocError>
-    ensures { OnOk result (html.new ≡ html.old ++ code_span_html (one_line text.now)) }
+    ensures pushed { OnOk result (html.new ≡ html.old ++ code_span_html (one_line text.now)) }
 {
     html.push_str(Element::Code.start())?;
     push_one_line(html, text)?;
@@ -88,7 +88,7 @@ pub(crate) fn push_code(
     to: usize,
 ) -> Result<(), AllocError>
     requires { IsBetween source.now from to }
-    ensures { OnOk result (html.new
+    ensures pushed { OnOk result (html.new
         ≡ html.old ++ code_span_html (one_line (slice_range source.now from to))) }
 {
     let text = &source[from..to];

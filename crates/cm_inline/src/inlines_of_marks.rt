@@ -37,7 +37,7 @@ fn boxed_target(
 /// The source between two places, unescaped, on the heap.
 fn boxed_part(spare: &mut Spare, source: &str, from: u32, to: u32) -> Result<BoxedText, AllocError>
     requires { IsBetween source.now from to }
-    ensures { IfOk result (λ text. text ≡ unescape (slice_range source.now from to)) }
+    ensures part { IfOk result (λ text. text ≡ unescape (slice_range source.now from to)) }
 {
     let text = unescaped_part(spare.alloc(), source, from, to)?;
     spare.boxed(&text)
@@ -51,7 +51,7 @@ fn boxed_target_of(
     target: Target,
 ) -> Result<(BoxedText, BoxedText), AllocError>
     requires { IsTargetIn source.now definitions.now target }
-    ensures { IfOk result (λ boxed. (boxed.0, boxed.1) ≡ target_in source.now definitions.now target) }
+    ensures target { IfOk result (λ boxed. (boxed.0, boxed.1) ≡ target_in source.now definitions.now target) }
 {
     match target {
         Target::Written {
@@ -77,7 +77,7 @@ fn link_with(
     content: Items<Inline>,
 ) -> Result<Inline, AllocError>
     requires { IsTargetIn source.now definitions.now link.target }
-    ensures { IfOk result (λ inline. (number : ℕ)
+    ensures made { IfOk result (λ inline. (number : ℕ)
         → inline ≡ made_of (link_tag source.now definitions.now number link) content) }
 {
     let (dest, title) = boxed_target_of(spare, source, definitions, link.target)?;
@@ -105,7 +105,7 @@ fn close_link(
     link: Link,
 ) -> Result<(), AllocError>
     requires { IsTargetIn source.now definitions.now link.target }
-    ensures { OnOk result ((number : ℕ) → built_in made.new ≡ closed (built_in made.old)
+    ensures closed { OnOk result ((number : ℕ) → built_in made.new ≡ closed (built_in made.old)
         (made_of (link_tag source.now definitions.now number link) (ended (built_in made.old)))) }
 {
     let content = made.take_content(spare)?;
@@ -119,7 +119,7 @@ fn boxed_destination(
     is_address: bool,
     text: &str,
 ) -> Result<BoxedText, AllocError>
-    ensures { IfOk result (λ dest. dest ≡ (if is_address then codes "mailto:" ++ text.now else text.now)) }
+    ensures destination { IfOk result (λ dest. dest ≡ (if is_address then codes "mailto:" ++ text.now else text.now)) }
 {
     if !is_address {
         return spare.boxed(text);
@@ -131,7 +131,7 @@ fn boxed_destination(
 
 /// An autolink as a link (6.5 Autolinks).
 fn autolink_to(spare: &mut Spare, is_address: bool, text: &str) -> Result<Inline, AllocError>
-    ensures { IfOk result (λ inline. inline ≡ autolink is_address text.now) }
+    ensures made { IfOk result (λ inline. inline ≡ autolink is_address text.now) }
 {
     Ok(Inline::Link {
         dest: boxed_destination(spare, is_address, text)?,
@@ -150,7 +150,7 @@ fn add_character(made: &mut Made, spare: &mut Spare, character: char) -> Result<
 
 /// Adds a code span, with spaces for the line feeds in its text.
 fn push_code(made: &mut Made, spare: &mut Spare, text: &str) -> Result<(), AllocError>
-    ensures { OnOk result (built_in made.new
+    ensures pushed { OnOk result (built_in made.new
         ≡ add_inline (built_in made.old) (inlines.Code (one_line text.now))) }
 {
     let text = one_line(spare, text)?;
@@ -167,7 +167,7 @@ fn push_mark(
     mark: Mark,
 ) -> Result<(), AllocError>
     requires { IsMarkIn source.now definitions.now reader.now mark }
-    ensures { OnOk result (built_in made.new ≡ build (built_in made.old)
+    ensures pushed { OnOk result (built_in made.new ≡ build (built_in made.old)
         (mark_events source.now definitions.now reader.now mark)) }
 {
     match mark.kind {
@@ -203,7 +203,7 @@ pub(crate) fn settle(
     reader: &Reader,
 ) -> Result<Items<Inline>, AllocError>
     requires { IsSettled true source.now definitions.now reader.now }
-    ensures { IfOk result (λ inlines.
+    ensures inlines { IfOk result (λ inlines.
         inlines ≡ inlines_of (events_in source.now definitions.now reader.now)) }
 {
     spare.sizes.count(source, reader)?;

@@ -37,7 +37,7 @@ mod made;
 mod marks;
 mod missing_ends;
 mod nesting;
-mod openers;
+mod pairing;
 mod reading;
 mod runs;
 mod sizes;

@@ -63,7 +63,7 @@ pub(crate) fn link_end(
 /// Whether the rules follow the address of a link or an image, whose destination comes as it is written.
 #[inline(always)]
 fn leads_on(rules: Rules, leaf: Leaf<'_>, dest: &str) -> Result<bool, NoMemory>
-    ensures { IfOk result (λ leads. leads ≡ is_followed rules (unescape dest.now)) }
+    ensures leads { IfOk result (λ leads. leads ≡ is_followed rules (unescape dest.now)) }
 {
     if rules.any_address() {
         return Ok(true);
@@ -238,7 +238,7 @@ fn reference(
 /// The source between the brackets, if it is a link label.
 fn label_between(source: &str, after: usize, at: usize) -> Option<&str>
     requires { AreBrackets source.now after at }
-    ensures { (defined : Defined) → target_by defined result
+    ensures target { (defined : Defined) → target_by defined result
         ≡ target_between defined (slice_range source.now after at) }
 {
     let (between, end) = label(source, after - 1)?;

@@ -9,7 +9,8 @@ ghost use Rattle.cm_inline.specs.steps.Writing.{ComeBefore};
 ghost use Rattle.cm_inline.specs.steps.Runs.{byte_of, tag_in, runs_in, pairs_in, paired_run};
 
 use crate::delimiter_runs::DelimiterRun;
-use crate::runs::{Emphasis, Pair, Runs};
+use crate::pairing::{Emphasis, Pair};
+use crate::runs::Runs;
 use crate::spare::Spare;
 use cm_tree::{Inline, Items, Text};
 use std::alloc::AllocError;
@@ -84,7 +85,7 @@ impl Made {
     /// Continues the text.
     #[inline(always)]
     pub(crate) fn add_text(&mut self, spare: &mut Spare, text: &str) -> Result<(), AllocError>
-        ensures { OnOk result (built_in self.new ≡ add_text (built_in self.old) text.now) }
+        ensures added { OnOk result (built_in self.new ≡ add_text (built_in self.old) text.now) }
     {
         if text.is_empty() {
             return Ok(());
@@ -196,13 +197,13 @@ impl Made {
         runs: &Runs,
         number: u32,
     ) -> Result<(), AllocError>
-        requires number { number < length runs.now.runs.items }
-        requires chained { AreChained (runs_in runs.now.runs.items) (pairs_in runs.now.pairs.items) }
+        requires number { number < length runs.now.list.runs }
+        requires chained { AreChained (runs_in runs.now.list.runs) (pairs_in runs.now.pairs.items) }
         ensures { OnOk result (built_in self.new ≡ build (built_in self.old)
             (run_events (pairs_in runs.now.pairs.items) number
-            (paired_run (run_at runs.now.runs.items number)))) }
+            (paired_run (run_at runs.now.list.runs number)))) }
     {
-        let run = runs.runs[number as usize];
+        let run = runs.run(number);
         self.close_pairs(spare, runs.pairs.as_slice(), run.from, run.to)?;
         self.add_left(spare, run.run)?;
         self.open_pairs(spare, runs.pairs.as_slice(), run.opened)

@@ -78,7 +78,7 @@ pub(crate) fn mark_between(at: usize, end: usize, kind: Kind) -> Mark
 #[inline(always)]
 pub(crate) fn part(source: &str, from: u32, to: u32) -> &str
     requires { IsBetween source.now from to }
-    ensures { result.now ≡ slice_range source.now from to }
+    ensures part { result.now ≡ slice_range source.now from to }
 {
     &source[from as usize..to as usize]
 }
@@ -92,7 +92,7 @@ pub(crate) fn unescaped_part(
     to: u32,
 ) -> Result<CowStr<'_, Global>, AllocError>
     requires { IsBetween source.now from to }
-    ensures { IfOk result (λ text. cow_str_bytes text ≡ unescape (slice_range source.now from to)) }
+    ensures part { IfOk result (λ text. cow_str_bytes text ≡ unescape (slice_range source.now from to)) }
 {
     match unescape_or_lend(alloc, part(source, from, to)) {
         Ok(text) => Ok(text),

@@ -1,20 +1,19 @@
 //! What is known to be missing in the rest of a leaf's source, so that no search is made twice.
 //!
-//! For comments, instructions, CDATA sections and declarations that is the place from which on their end is
-//! missing. For code spans it is where the last backtick string of each length ends, found in one pass the
-//! first time that one is missing. Open tags need no memory: at most three of them are open at any place,
-//! whatever `<` and quotation marks a text has, so all their scans together take linear time.
-ghost use Rattle.std.specs.Prelude.{◌≡◌, ℕ, ◌≤◌, ◌++◌, true, List, length, drop, get_or};
-ghost use Rattle.std.specs.Prelude.{Some, IfOk, OnOk, IfSome};
-ghost use Rattle.cm_scan.specs.Words.{is_letter};
-ghost use Rattle.cm_inline.specs.declared.missing_ends.Form.TheVariants.{Declaration};
-ghost use Rattle.cm_inline.specs.steps.Missing.{start_of, end_of, missing_from, AreLast, Knows, NoneFrom};
+//! For comments, instructions, CDATA sections and declarations that is where one started in vain last: none that
+//! starts later has an end. For code spans it is where the last backtick string of each length ends, found in
+//! one pass the first time that one is missing. Open tags need no memory: at most three of them are open at any
+//! place, whatever `<` and quotation marks a text has (`tags_reach_thrice` in `cm_scan`).
+ghost use Rattle.std.specs.Prelude.{◌≡◌, ◌+◌, ◌≤◌, ◌∷◌, true, None, nat_lt, IfOk, OnOk, IfSome};
+ghost use Rattle.cm_scan.specs.spans.Reach.{needed, needed_after_mark};
+ghost use Rattle.cm_inline.specs.steps.Missing.{Starts, missing_from, remembered, AreLast, Knows, NoneFrom};
 
-use cm_scan::{after_run, holds_from};
-use cm_text::Rules;
+use cm_scan::after_run;
+use cm_text::{Looks, Rest, Rules};
 use memchr::memchr;
 use std::alloc::{AllocError, Global};
 use std::collections::BTreeMap;
+use std::sync::ledger::Ledger;
 
 /// A form of raw HTML that ends at the first place of a word, however far that is (CommonMark 0.31.2, 6.6 Raw
 /// HTML).
@@ -31,45 +30,43 @@ pub(crate) enum Form {
     Declaration,
 }
 
-impl Form {
-    /// The word that ends it.
-    fn end(self) -> &'static str
-        ensures { result.now ≡ end_of self }
-    {
-        match self {
-            Form::Comment => "-->",
-            Form::Instruction => "?>",
-            Form::CharacterData => "]]>",
-            Form::Declaration => ">",
-        }
+/// The form that starts with a `<`, from after that on, if one does but for its end.
+pub(crate) fn form_of<L: Ledger>(
+    rules: Rules,
+    text: &Rest<'_>,
+    looks: &mut Looks<L>,
+) -> Option<Form>
+    ensures start { IfSome result (Starts rules.older (60 ∷ text.now)) }
+    ensures none { result ≡ None → needed rules.older (60 ∷ text.now) ≡ 0 }
+    ensures looks { looks.new ≤ looks.old + 11 }
+{
+    let (c, inside) = text.first(looks)?;
+    match c {
+        b'?' => Some(Form::Instruction),
+        b'!' => form_after_mark(rules.is_older(), &inside, looks),
+        _ => None,
     }
 }
 
-/// The form that starts at a place, if one does but for its end. What is refused for another reason is none:
-/// its end would be searched for at each place, and nothing would be remembered.
-pub(crate) fn form_at(rules: Rules, source: &str, at: usize) -> Option<Form>
-    requires { at ≤ length source.now }
-    ensures start { IfSome result (λ form. (rest : List ℕ) × (drop at source.now ≡ start_of form ++ rest)) }
-    ensures letter { result ≡ Some Declaration → is_letter (get_or (drop at source.now) 2 0) ≡ true }
+/// The form that starts with `<!`, from after that on. What is refused for another reason than its end is none:
+/// its end would be searched for at each place.
+fn form_after_mark<L: Ledger>(older: bool, inside: &Rest<'_>, looks: &mut Looks<L>) -> Option<Form>
+    ensures start { IfSome result (Starts older (60 ∷ 33 ∷ inside.now)) }
+    ensures none { result ≡ None → needed_after_mark older inside.now ≡ 0 }
+    ensures looks { looks.new ≤ looks.old + 10 }
 {
-    let text = &source.as_bytes()[at..];
-    if text.starts_with(b"<?") {
-        return Some(Form::Instruction);
+    if inside.starts_with(b"--", looks) {
+        return (!older).then_some(Form::Comment);
     }
-    if text.starts_with(b"<!--") {
-        return (!rules.is_older()).then_some(Form::Comment);
-    }
-    if text.starts_with(b"<![CDATA[") {
+    if inside.starts_with(b"[CDATA[", looks) {
         return Some(Form::CharacterData);
     }
-    if text.starts_with(b"<!") && text.len() > 2 && text[2].is_ascii_alphabetic() {
-        return Some(Form::Declaration);
-    }
-    None
+    let (b, _) = inside.first(looks)?;
+    b.is_ascii_alphabetic().then_some(Form::Declaration)
 }
 
-/// From where on a source has no end of each form, as far as that is known, and where the last backtick
-/// strings end, once a search for one has failed.
+/// Where a form started whose end is missing, or the length of the source as long as none is known, and where
+/// the last backtick strings end, once a search for one has failed.
 #[derive(Drop)]
 pub(crate) struct MissingEnds {
     comment: usize,
@@ -82,7 +79,7 @@ pub(crate) struct MissingEnds {
 impl MissingEnds {
     /// Nothing is known of the source yet.
     pub(crate) fn of(source: &str) -> MissingEnds
-        ensures { Knows source.now result }
+        ensures knows { Knows source.now result }
     {
         MissingEnds {
             comment: source.len(),
@@ -93,9 +90,9 @@ impl MissingEnds {
         }
     }
 
-    /// Whether the form's end is known to be missing from a place on.
+    /// Whether the form's end is known to be missing where the form starts at a place.
     pub(crate) fn is_missing(&self, form: Form, at: usize) -> bool
-        ensures { result ≡ true → missing_from self.now form ≤ at }
+        ensures { result ≡ nat_lt (missing_from self.now form) at }
     {
         let from = match form {
             Form::Comment => self.comment,
@@ -103,18 +100,13 @@ impl MissingEnds {
             Form::CharacterData => self.character_data,
             Form::Declaration => self.declaration,
         };
-        from <= at
+        from < at
     }
 
-    /// Looks whether the form's end is missing from a place on.
-    pub(crate) fn look_for_end(&mut self, form: Form, source: &str, at: usize)
-        requires within { at ≤ length source.now }
-        requires knows { Knows source.now self.old }
-        ensures knows { Knows source.now self.new }
+    /// Remembers that the form that starts at a place lacks its end.
+    pub(crate) fn remember(&mut self, form: Form, at: usize)
+        ensures { self.new ≡ remembered form at self.old }
     {
-        if holds_from(source, at, form.end()) {
-            return;
-        }
         match form {
             Form::Comment => self.comment = at,
             Form::Instruction => self.instruction = at,
@@ -126,7 +118,7 @@ impl MissingEnds {
     /// Whether it is known that no backtick string of this length follows the one that ends at a place.
     pub(crate) fn is_last_backticks(&self, source: &str, count: usize, end: usize) -> bool
         requires { Knows source.now self.now }
-        ensures { result ≡ true → NoneFrom source.now count end }
+        ensures last { result ≡ true → NoneFrom source.now count end }
     {
         match &self.backticks {
             None => false,
@@ -144,7 +136,7 @@ impl MissingEnds {
         source: &str,
     ) -> Result<(), AllocError>
         requires { Knows source.now self.old }
-        ensures { OnOk result (Knows source.now self.new) }
+        ensures knows { OnOk result (Knows source.now self.new) }
     {
         if self.backticks.is_none() {
             self.backticks = Some(last_backticks(alloc, source)?);
@@ -155,7 +147,7 @@ impl MissingEnds {
 
 /// The place after the last backtick string of each length.
 fn last_backticks(alloc: Global, source: &str) -> Result<BTreeMap<usize, usize>, AllocError>
-    ensures { IfOk result (λ last. AreLast source.now last) }
+    ensures last { IfOk result (λ last. AreLast source.now last) }
 {
     let mut last = BTreeMap::new(alloc);
     let mut at = 0;

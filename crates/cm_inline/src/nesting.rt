@@ -10,7 +10,8 @@ ghost use Rattle.cm_inline.specs.steps.Writing.{mark_events, ComeBefore, IsNumbe
 
 use crate::brackets::Reader;
 use crate::marks::{Kind, Mark};
-use crate::runs::{Pair, Runs};
+use crate::pairing::Pair;
+use crate::runs::Runs;
 
 /// How deep the current place nests, and the greatest depth so far.
 #[derive(Clone, Copy)]
@@ -62,14 +63,14 @@ fn after_starts(level: Level, pairs: &[Pair], opened: u32) -> Level
 
 /// The level after a run, with the ends and starts of its pairs.
 fn after_run(level: Level, runs: &Runs, number: u32) -> Level
-    requires number { number < length runs.now.runs.items }
-    requires chained { AreChained (runs_in runs.now.runs.items) (pairs_in runs.now.pairs.items) }
+    requires number { number < length runs.now.list.runs }
+    requires chained { AreChained (runs_in runs.now.list.runs) (pairs_in runs.now.pairs.items) }
     requires rises { CanRiseAll (2 ^ 64) level (run_events (pairs_in runs.now.pairs.items) number
-        (paired_run (run_at runs.now.runs.items number))) }
+        (paired_run (run_at runs.now.list.runs number))) }
     ensures { result ≡ rise_all level (run_events (pairs_in runs.now.pairs.items) number
-        (paired_run (run_at runs.now.runs.items number))) }
+        (paired_run (run_at runs.now.list.runs number))) }
 {
-    let run = runs.runs[number as usize];
+    let run = runs.run(number);
     let level = level.end((run.to - run.from) as usize);
     after_starts(level, runs.pairs.as_slice(), run.opened)
 }
@@ -77,8 +78,8 @@ fn after_run(level: Level, runs: &Runs, number: u32) -> Level
 /// The level after a mark.
 fn after_mark(level: Level, reader: &Reader, mark: Mark) -> Level
     requires high { level.now ≤ level.most }
-    requires number { IsNumbered reader.now.runs.runs.items mark.kind }
-    requires chained { AreChained (runs_in reader.now.runs.runs.items)
+    requires number { IsNumbered reader.now.runs.list.runs mark.kind }
+    requires chained { AreChained (runs_in reader.now.runs.list.runs)
         (pairs_in reader.now.runs.pairs.items) }
     requires rises { (source : List ℕ) × (targets : Targets)
         × CanRiseAll (2 ^ 64) level (mark_events source targets reader.now mark) }

@@ -26,10 +26,12 @@ use crate::leaf::Leaf;
 use crate::nesting::nests_past;
 use crate::spare::Spare;
 use cm_html::Pages;
-use cm_text::{Rules, next_marked};
+use cm_text::{Looks, Rules, next_marked};
 use cm_tree::{Block, Definitions, Inline, Items};
 use std::alloc::{AllocError, Global};
 use std::fmt;
+use std::marker::Brand;
+use std::sync::ledger::{Blank, Ledger};
 
 /// How many openers the pairing of delimiter runs has looked at: one or more
 /// for each emphasis, strong emphasis and strikethrough that it made, and for
@@ -40,11 +42,12 @@ pub struct Steps(pub u128);
 
 /// Reads what follows the text between two places, and returns where that ends.
 #[inline(always)]
-fn read_on(
+fn read_on<L: Ledger>(
     rules: Rules,
     leaf: Leaf<'_>,
     reader: &mut Reader,
     text: (usize, usize),
+    looks: &mut Looks<L>,
 ) -> Result<usize, InlineFault>
     requires reading { ReadingOf rules leaf text.0 reader.old }
     requires text { IsTextTo leaf.source.now text.0 text.1 }
@@ -62,15 +65,17 @@ fn read_on(
     if leaf.source.as_bytes()[end] == b']' {
         return reader.close(rules, leaf, end);
     }
-    Ok(read_atom(leaf.alloc, rules, leaf.source, end, reader)?)
+    let Leaf { source, alloc, .. } = leaf;
+    Ok(read_atom(alloc, rules, source, end, reader, looks)?)
 }
 
 /// Reads a source to its end, in one pass, from the text at its start on, which ends at a place.
-fn read_all(
+fn read_all<L: Ledger>(
     rules: Rules,
     leaf: Leaf<'_>,
     reader: &mut Reader,
     first: usize,
+    looks: &mut Looks<L>,
 ) -> Result<(), InlineFault>
     requires text { IsTextTo leaf.source.now 0 first }
     requires start { ReadingOf rules leaf 0 reader.old }
@@ -81,10 +86,33 @@ fn read_all(
 {
     let mut text = (0, first);
     while text.0 < leaf.source.len() {
-        let at = read_on(rules, leaf, reader, text)?;
+        let at = read_on(rules, leaf, reader, text, looks)?;
         text = (at, text_end(leaf.source, at));
     }
     Ok(())
+}
+
+/// The same for a caller that counts no looks.
+#[inline(always)]
+fn read_leaf<L: Ledger>(
+    rules: Rules,
+    leaf: Leaf<'_>,
+    reader: &mut Reader,
+    first: usize,
+    blank: Blank,
+) -> Result<(), InlineFault>
+    requires text { IsTextTo leaf.source.now 0 first }
+    requires start { ReadingOf rules leaf 0 reader.old }
+    requires name { blank.name ≡ L.name }
+    requires parts { blank.parts ≡ L.parts }
+    requires some { 0 < blank.parts }
+    ensures reading { OnOk result (ReadingOf rules leaf.entry (length leaf.entry.source.now) reader.new) }
+    ensures lines { OnOk result (reader.new.lines ≡ reader.old.lines) }
+    ensures deep { result ≡ Err InlinesTooDeep → IsTooDeep rules leaf.entry }
+    ensures short { result ≢ Err SourceTooLong }
+{
+    let mut looks = Looks::<L>::start(blank);
+    read_all(rules, leaf, reader, first, &mut looks)
 }
 
 /// Whether a source is nonempty and has none of the bytes that can start anything but text. Then it is
@@ -102,7 +130,7 @@ pub fn is_one_text(source: &str) -> bool
 /// Where the text at the start of a source ends.
 #[inline(always)]
 fn first_text_end(source: &str) -> usize
-    ensures { IsTextTo source.now 0 result }
+    ensures text { IsTextTo source.now 0 result }
 {
     text_end(source, 0)
 }
@@ -112,7 +140,7 @@ fn first_text_end(source: &str) -> usize
 /// feed, and nothing in it is escaped.
 fn is_all_text(source: &str, first: usize) -> bool
     requires { IsTextTo source.now 0 first }
-    ensures { IsTrue result → IsAllText source.now }
+    ensures text { IsTrue result → IsAllText source.now }
 {
     let mut end = first;
     while end < source.len() {
@@ -179,12 +207,12 @@ impl InlineReader {
         };
         let reader = &mut self.reader;
         reader.restart(source, lines);
-        read_all(rules, leaf, reader, first)?;
+        read_leaf::<Brand>(rules, leaf, reader, first, Blank::new(1))?;
         reader.runs.pair_from(0, limit)?;
         if nests_past(reader, limit) {
             return Err(InlineFault::InlinesTooDeep);
         }
-        Ok(Steps(reader.runs.openers.looks()))
+        Ok(Steps(reader.runs.looks()))
     }
 
     /// The inlines of a leaf with this source, whose lines are separated by line feeds, in a document with
@@ -203,7 +231,7 @@ impl InlineReader {
         definitions: &Definitions,
         limit: usize,
     ) -> Result<(Items<Inline>, Steps), InlineFault>
-        ensures { Reads result rules definitions.now limit source.now }
+        ensures reads { Reads result rules definitions.now limit source.now }
     {
         let first = first_text_end(source);
         let steps = self.read_marks(rules, source, definitions, limit, first, true)?;
@@ -219,7 +247,7 @@ impl InlineReader {
     ///
     /// `AllocError` if a request for memory was refused.
     pub fn one_text(&mut self, source: &str) -> Result<Items<Inline>, AllocError>
-        ensures { IfOk result (λ inlines. inlines ≡ Text source.now ∷ []) }
+        ensures text { IfOk result (λ inlines. inlines ≡ Text source.now ∷ []) }
     {
         self.spare.one_text(source)
     }
@@ -271,7 +299,7 @@ pub fn inlines(
     definitions: &Definitions,
     limit: usize,
 ) -> Result<(Items<Inline>, Steps), InlineFault>
-    ensures { Reads result profile definitions.now limit source.now }
+    ensures reads { Reads result profile definitions.now limit source.now }
 {
     inlines_by(alloc, Rules::profile(), source, definitions, limit)
 }
@@ -284,7 +312,7 @@ pub fn inlines_by(
     definitions: &Definitions,
     limit: usize,
 ) -> Result<(Items<Inline>, Steps), InlineFault>
-    ensures { Reads result rules definitions.now limit source.now }
+    ensures reads { Reads result rules definitions.now limit source.now }
 {
     InlineReader::new(alloc).inlines(rules, source, definitions, limit)
 }

@@ -10,7 +10,8 @@ ghost use Rattle.cm_inline.specs.steps.Writing.{ComeBefore, IsNumbered};
 
 use crate::brackets::Reader;
 use crate::marks::{Kind, Mark};
-use crate::runs::{Pair, Runs};
+use crate::pairing::Pair;
+use crate::runs::Runs;
 use std::alloc::{AllocError, Global};
 
 /// The sizes, in the order in which the lists and the texts start.
@@ -128,10 +129,10 @@ impl Sizes {
 
     /// Counts what a run becomes.
     fn add_run(&mut self, runs: &Runs, number: u32) -> Result<(), AllocError>
-        requires number { number < length runs.now.runs.items }
-        requires chained { AreChained (runs_in runs.now.runs.items) (pairs_in runs.now.pairs.items) }
+        requires number { number < length runs.now.list.runs }
+        requires chained { AreChained (runs_in runs.now.list.runs) (pairs_in runs.now.pairs.items) }
     {
-        let run = runs.runs[number as usize];
+        let run = runs.run(number);
         for _ in run.from..run.to {
             self.end();
         }
@@ -142,8 +143,8 @@ impl Sizes {
     /// Counts what a mark becomes.
     #[inline(always)]
     fn add_mark(&mut self, reader: &Reader, mark: Mark) -> Result<(), AllocError>
-        requires number { IsNumbered reader.now.runs.runs.items mark.kind }
-        requires chained { AreChained (runs_in reader.now.runs.runs.items)
+        requires number { IsNumbered reader.now.runs.list.runs mark.kind }
+        requires chained { AreChained (runs_in reader.now.runs.list.runs)
             (pairs_in reader.now.runs.pairs.items) }
     {
         match mark.kind {

@@ -81,7 +81,7 @@ impl Spare {
     /// A copy of a text.
     #[inline(always)]
     pub(crate) fn text(&mut self, text: &str) -> Result<Text, AllocError>
-        ensures { IfOk result (λ copy. copy ≡ text.now) }
+        ensures copy { IfOk result (λ copy. copy ≡ text.now) }
     {
         let mut copy = self.string_for(text.len())?;
         copy.push_str(text)?;
@@ -90,7 +90,7 @@ impl Spare {
 
     /// A copy of a text, on the heap.
     pub(crate) fn boxed(&mut self, text: &str) -> Result<BoxedText, AllocError>
-        ensures { IfOk result (λ boxed. boxed ≡ text.now) }
+        ensures copy { IfOk result (λ boxed. boxed ≡ text.now) }
     {
         if text.is_empty() {
             return BoxedText::new(self.alloc, Text::new(self.alloc));
@@ -107,7 +107,7 @@ impl Spare {
 
     /// A text as the one inline of a list.
     pub(crate) fn one_text(&mut self, text: &str) -> Result<Items<Inline>, AllocError>
-        ensures { IfOk result (λ inlines. inlines ≡ text_inline text.now ∷ []) }
+        ensures text { IfOk result (λ inlines. inlines ≡ text_inline text.now ∷ []) }
     {
         let mut inlines = match self.list() {
             Some(list) => Items::from(list),

@@ -1,32 +1,12 @@
 -- Small definitions on texts, which several grammars share. A text is its UTF-8 bytes.
-use Rattle.std.specs.Prelude.{ℕ, suc, ◌+◌, Bool, true, false, ◌&&◌, ◌||◌, List, [], ◌∷◌, Option, Some, None, ◌==◌, nat_lt, if◌then◌else◌}
+use Rattle.std.specs.Prelude.{ℕ, suc, Bool, true, false, ◌&&◌, ◌||◌, List, [], ◌∷◌, Option, Some, None, ◌==◌}
 use Rattle.std.specs.List.{list_all, list_any}
-use Rattle.cm_text.specs.Bytes.{space}
-use Rattle.cm_text.specs.Characters.{within}
+use Rattle.std.specs.Str.{byte, bytes_eq}
 pub use Rattle.cm_text.specs.Characters.{is_space_or_tab}
 unfoldable pub use Rattle.cm_text.specs.References.{after_word}
 pub use Rattle.cm_text.specs.References.{begins_with}
-
--- An ASCII control character is a character between U+0000 and U+001F or U+007F (2.1).
-abbrev pub is_control : ℕ → Bool
-is_control b = nat_lt b 32 || b == 127
-
--- an ASCII digit
-abbrev pub is_digit : ℕ → Bool
-is_digit b = within 48 57 b
-
--- an ASCII letter
-abbrev pub is_letter : ℕ → Bool
-is_letter b = within 65 90 b || within 97 122 b
-
--- an ASCII letter or digit
-abbrev pub is_letter_or_digit : ℕ → Bool
-is_letter_or_digit b = is_letter b || is_digit b
-
--- what is left of a text after the bytes at its start that pass a test
-unfoldable pub skip : (ℕ → Bool) → List ℕ → List ℕ
-skip test [] = []
-skip test (b ∷ bs) = elim (test b) [ true ↦ skip test bs | false ↦ b ∷ bs ]
+unfoldable pub use Rattle.cm_text.specs.Trims.{skip, trim_end_by}
+pub use Rattle.cm_text.specs.Trims.{keep_byte}
 
 -- the bytes at the start of a text that pass a test
 unfoldable pub front_of : (ℕ → Bool) → List ℕ → List ℕ
@@ -47,28 +27,13 @@ after_run marker (b ∷ bs) = elim (b == marker) [ true ↦ after_run marker bs 
 abbrev pub trim_start : List ℕ → List ℕ
 trim_start text = skip is_space_or_tab text
 
--- a byte that is trimmed from the end of a text: a space, or a tab if tabs are trimmed too
-abbrev pub is_trimmed : (tabs : Bool) → ℕ → Bool
-is_trimmed true b = is_space_or_tab b
-is_trimmed false b = b == space
-
--- a byte before what is left of the text after it
-abbrev pub keep_byte : (tabs : Bool) → ℕ → List ℕ → List ℕ
-keep_byte tabs b [] = if is_trimmed tabs b then [] else b ∷ []
-keep_byte tabs b (c ∷ cs) = b ∷ c ∷ cs
-
--- a text without the spaces at its end, or without the spaces and tabs
-unfoldable pub trim_end_by : (tabs : Bool) → List ℕ → List ℕ
-trim_end_by tabs [] = []
-trim_end_by tabs (b ∷ bs) = keep_byte tabs b (trim_end_by tabs bs)
-
 -- a text without the spaces and tabs at its end
 abbrev pub trim_end : List ℕ → List ℕ
-trim_end text = trim_end_by true text
+trim_end text = trim_end_by is_space_or_tab text
 
 -- a text without the spaces at its end
 abbrev pub trim_end_spaces : List ℕ → List ℕ
-trim_end_spaces text = trim_end_by false text
+trim_end_spaces text = trim_end_by (λ b. b == byte " ") text
 
 -- a text without the spaces and tabs at both ends
 abbrev pub trim : List ℕ → List ℕ
@@ -99,19 +64,9 @@ unfoldable pub holds_word : List ℕ → List ℕ → Bool
 holds_word word [] = is_at_word word []
 holds_word word (b ∷ bs) = is_at_word word (b ∷ bs) || holds_word word bs
 
--- two texts have the same bytes
-unfoldable pub same_bytes : List ℕ → List ℕ → Bool
-same_bytes [] [] = true
-same_bytes (b ∷ bs) (c ∷ cs) = b == c && same_bytes bs cs
-same_bytes _ _ = false
-
 -- the word is one of these
 abbrev pub is_among : List (List ℕ) → List ℕ → Bool
-is_among words word = list_any (λ w. same_bytes w word) words
-
--- an ASCII letter in lower case, and any other byte as it is
-abbrev pub to_lower : ℕ → ℕ
-to_lower b = if within 65 90 b then b + 32 else b
+is_among words word = list_any (λ w. bytes_eq w word) words
 
 infixr 6 ◌<|>◌
 -- the first of two readings, or the second if there is no first
@@ -123,3 +78,9 @@ None <|> second = second
 abbrev pub given : {A : Type 0} → Bool → A → Option A
 given true x = Some x
 given false x = None
+
+infixl 5 ◌and_then◌
+-- what a second reading makes of the first; none if there is no first
+abbrev pub ◌and_then◌ : {A B : Type 0} → Option A → (A → Option B) → Option B
+None and_then more = None
+(Some x) and_then more = more x

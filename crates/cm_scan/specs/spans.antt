@@ -3,3 +3,4 @@ pub mod RawHtml
 pub mod Autolinks
 pub mod CodeSpans
 pub mod Angles
+pub mod Reach

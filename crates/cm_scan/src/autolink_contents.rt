@@ -1,11 +1,12 @@
 //! What is between the angle brackets of an autolink (CommonMark 0.31.2, 6.5 Autolinks).
 ghost use Rattle.std.specs.Prelude.{◌≡◌, List, ℕ, ◌||◌, ◌==◌, option_map, IfSome};
 ghost use Rattle.std.specs.List.{list_all};
-ghost use Rattle.cm_scan.specs.Words.{is_letter_or_digit, skip};
+ghost use Rattle.std.specs.Char.{is_ascii_alphanumeric};
+ghost use Rattle.cm_scan.specs.Words.{skip};
 ghost use Rattle.cm_scan.specs.spans.Autolinks.{continues_scheme, is_absolute, stands_in_address};
-ghost use Rattle.cm_scan.specs.spans.Autolinks.{labels, is_host_label, is_address, as_autolink};
+ghost use Rattle.cm_scan.specs.spans.Autolinks.{is_host_label, is_address, as_autolink};
 ghost use Rattle.cm_scan.specs.Scanned.{autolink_with};
-ghost use Rattle.cm_scan.specs.steps.SpanSteps.{is_host_byte};
+ghost use Rattle.cm_scan.specs.steps.SpanSteps.{is_host_byte, labels};
 
 use crate::links::is_next;
 use crate::tags::{first_of, is_letter};
@@ -47,7 +48,7 @@ pub(crate) fn link_of<'a>(inside: &'a str) -> Option<Autolink<'a>>
 /// Whether a byte is an ASCII letter or a digit.
 #[inline(always)]
 fn is_letter_or_digit(b: u8) -> bool
-    ensures { result ≡ is_letter_or_digit b }
+    ensures { result ≡ is_ascii_alphanumeric b }
 {
     is_letter(b) || is_digit(b)
 }
@@ -62,14 +63,14 @@ fn continues_scheme(b: u8) -> bool
 
 /// The bytes after those that continue a scheme.
 fn skip_scheme(bytes: &[u8]) -> &[u8]
-    ensures { result.now ≡ skip continues_scheme bytes.now }
+    ensures skipped { result.now ≡ skip continues_scheme bytes.now }
 {
     skip_while(bytes, continues_scheme)
 }
 
 /// Whether this is an absolute URI: a scheme of 2 to 32 characters, followed by a colon.
 fn is_absolute(inside: &[u8]) -> bool
-    ensures { result ≡ is_absolute inside.now }
+    ensures absolute { result ≡ is_absolute inside.now }
 {
     let rest = skip_scheme(inside);
     let scheme = inside.len() - rest.len();
@@ -88,14 +89,14 @@ fn stands_in_address(b: u8) -> bool
 
 /// The bytes after those that may be before the `@` of an e-mail address.
 fn skip_address(bytes: &[u8]) -> &[u8]
-    ensures { result.now ≡ skip stands_in_address bytes.now }
+    ensures skipped { result.now ≡ skip stands_in_address bytes.now }
 {
     skip_while(bytes, stands_in_address)
 }
 
 /// Whether this is an e-mail address.
 fn is_address(inside: &[u8]) -> bool
-    ensures { result ≡ is_address inside.now }
+    ensures address { result ≡ is_address inside.now }
 {
     let rest = skip_address(inside);
     if rest.len() == inside.len() {
@@ -109,7 +110,7 @@ fn is_address(inside: &[u8]) -> bool
 
 /// Whether each part between the dots is a label of a host.
 fn are_host_labels(host: &[u8]) -> bool
-    ensures { result ≡ list_all is_host_label (labels host.now) }
+    ensures labels { result ≡ list_all is_host_label (labels host.now) }
 {
     let mut rest = host;
     while let Some(dot) = memchr(b'.', rest) {
@@ -123,7 +124,7 @@ fn are_host_labels(host: &[u8]) -> bool
 
 /// Whether this is a label of a host: 1 to 63 letters, digits or hyphens, with no hyphen at an end.
 fn is_host_label(label: &[u8]) -> bool
-    ensures { result ≡ is_host_label label.now }
+    ensures label { result ≡ is_host_label label.now }
 {
     if label.is_empty() || label.len() > 63 {
         return false;
@@ -136,7 +137,7 @@ fn is_host_label(label: &[u8]) -> bool
 
 /// Whether there are only letters, digits and hyphens.
 fn has_host_bytes(label: &[u8]) -> bool
-    ensures { result ≡ list_all is_host_byte label.now }
+    ensures bytes { result ≡ list_all is_host_byte label.now }
 {
     label.iter().all(|b| is_host_byte(*b))
 }

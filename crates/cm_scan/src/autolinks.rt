@@ -47,7 +47,7 @@ pub fn autolink_by<'a>(rules: Rules, text: &'a str, at: usize) -> Option<(Autoli
 /// Whether the rules follow the address of an autolink with this text. That of an e-mail
 /// address they always follow.
 fn leads_on(rules: Rules, is_address: bool, text: &str) -> bool
-    ensures { (rest : List ℕ) → result
+    ensures followed { (rest : List ℕ) → result
         ≡ is_followed rules (autolink_with is_address text.now rest).destination }
 {
     is_address || is_followed(rules, text)

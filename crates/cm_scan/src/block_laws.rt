@@ -13,7 +13,7 @@ pub fn lines_at_the_margin()
 {}
 
 /// The content of a block quote or an item starts after its marker and one space, or after the marker alone.
-pub fn content_behind_markers()
+pub fn content_after_markers()
     ensures quote { QuoteAndSpace }
     ensures quote_alone { QuoteAlone }
     ensures item { ItemAndSpace }

@@ -4,14 +4,14 @@ ghost use Rattle.cm_scan.specs.inlines.Atoms.{first_character, last_character};
 
 /// The first character of a text.
 pub fn first_character(text: &str) -> Option<char>
-    ensures { result ≡ first_character text.now }
+    ensures character { result ≡ first_character text.now }
 {
     text.chars().next()
 }
 
 /// The last character of a text.
 pub fn last_character(text: &str) -> Option<char>
-    ensures { result ≡ last_character (reverse text.now) }
+    ensures character { result ≡ last_character (reverse text.now) }
 {
     text.chars().next_back()
 }

@@ -3,7 +3,7 @@ ghost use Rattle.std.specs.Prelude.{◌≡◌, ◌≤◌, ℕ, None, false, leng
 ghost use Rattle.std.specs.Str.{IsCharBoundary};
 ghost use Rattle.memchr.specs.Find.{IsFirstByte, is_byte};
 ghost use Rattle.cm_scan.specs.Words.{run_length};
-ghost use Rattle.cm_scan.specs.spans.CodeSpans.{up_to_run, span_content, spanned_as_written, code_span};
+ghost use Rattle.cm_scan.specs.spans.CodeSpans.{up_to_run, spanned_as_written, code_span, span_content};
 ghost use Rattle.cm_scan.specs.Scanned.{reading_of};
 ghost use Rattle.cm_scan.specs.steps.SpanSteps.{run_at};
 
@@ -31,7 +31,7 @@ impl ByteKind for Backtick {
 /// The place of the first backtick. It is mostly near, and a call of `memchr` takes more.
 #[inline(always)]
 fn first_backtick(bytes: &[u8]) -> Option<usize>
-    ensures { IsFirstByte (is_byte 96) bytes.now result }
+    ensures found { IsFirstByte (is_byte 96) bytes.now result }
 {
     let at = next_of::<Backtick>(bytes, 0);
     (at < bytes.len()).then_some(at)

@@ -18,7 +18,7 @@ pub(crate) fn is_blank_byte(b: u8) -> bool
 /// Whether a space, a tab or a line feed is at a place.
 #[inline(always)]
 pub fn is_blank_next(text: &[u8], at: usize) -> bool
-    ensures { result ≡ is_blank_next (drop at text.now) }
+    ensures blank { result ≡ is_blank_next (drop at text.now) }
 {
     at < text.len() && is_blank_byte(text[at])
 }

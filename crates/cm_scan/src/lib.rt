@@ -44,6 +44,7 @@ pub mod laws;
 mod line_forms;
 mod links;
 mod markers;
+mod plain_tags;
 pub mod rule_laws;
 pub mod span_laws;
 mod tags;
@@ -55,7 +56,7 @@ pub use characters::{first_character, last_character};
 pub use code_spans::code_span;
 pub use gaps::{after_gap, is_blank_next};
 pub use html_blocks::{HtmlKind, html_end, html_start, html_start_by};
-pub use inline_html::{holds_from, raw_html, raw_html_by};
+pub use inline_html::{after_raw_html, holds_from, raw_html, raw_html_by};
 pub use line_forms::{
     AtxHeading, FenceKind, OpeningFence, atx, fence, fence_end, quote_marker, thematic, underline,
 };

@@ -8,8 +8,8 @@ ghost use Rattle.std.specs.Prelude.{not, nat_le, count_by};
 ghost use Rattle.std.specs.List.{list_all, list_any};
 ghost use Rattle.std.specs.Str.{IsCharBoundary};
 ghost use Rattle.cm_scan.specs.Words.{given, begins_with};
-ghost use Rattle.cm_scan.specs.blocks.LineForms.{is_break_of, is_thematic_break, without_closing};
-ghost use Rattle.cm_scan.specs.blocks.LineForms.{atx_heading, is_underline_of, underline};
+ghost use Rattle.cm_scan.specs.blocks.LineForms.{fewest_marks, is_break_of, is_thematic_break};
+ghost use Rattle.cm_scan.specs.blocks.LineForms.{atx_heading, is_underline_of, underline, without_closing};
 ghost use Rattle.cm_scan.specs.blocks.LineForms.{fence_of, opening_fence, is_closing_fence};
 ghost use Rattle.cm_scan.specs.Scanned.{ending};
 ghost use Rattle.cm_scan.specs.steps.LineSteps.{is_break_marker, is_in_break};
@@ -19,6 +19,9 @@ use crate::words::{
 };
 use cm_text::{ByteKind, next_of};
 use std::simd::prelude::*;
+
+/// How many of its marker a thematic break has at least.
+const FEWEST_MARKS: usize = 3;
 
 /// Bytes that no thematic break of a marker has.
 struct OutsideBreak<const MARKER: u8>;
@@ -50,14 +53,14 @@ fn is_in_break(marker: u8, b: u8) -> bool
 /// Whether all bytes are in a thematic break of the marker.
 #[inline(always)]
 fn are_in_break<const MARKER: u8>(bytes: &[u8]) -> bool
-    ensures { result ≡ list_all (is_in_break MARKER) bytes.now }
+    ensures bytes { result ≡ list_all (is_in_break MARKER) bytes.now }
 {
     next_of::<OutsideBreak<MARKER>>(bytes, 0) == bytes.len()
 }
 
-/// Whether there are three or more of a byte.
-fn has_three(marker: u8, bytes: &[u8]) -> bool
-    ensures { result ≡ nat_le 3 (count_by (λ b. b == marker) bytes.now) }
+/// Whether there are enough of a byte for a thematic break.
+fn has_enough(marker: u8, bytes: &[u8]) -> bool
+    ensures enough { result ≡ nat_le fewest_marks (count_by (λ b. b == marker) bytes.now) }
 {
     let mut count: usize = 0;
     for b in bytes {
@@ -65,21 +68,21 @@ fn has_three(marker: u8, bytes: &[u8]) -> bool
             count += 1;
         }
     }
-    count >= 3
+    count >= FEWEST_MARKS
 }
 
-/// Whether there are three or more of the marker, and otherwise spaces and tabs. A line of markers of items
+/// Whether there are enough of the marker, and otherwise spaces and tabs. A line of markers of items
 /// is searched like this at each of them.
 fn is_break_of(marker: u8, bytes: &[u8]) -> bool
     requires { is_break_marker marker ≡ true }
-    ensures { result ≡ is_break_of marker bytes.now }
+    ensures breaks { result ≡ is_break_of marker bytes.now }
 {
     let is_inside = match marker {
         b'-' => are_in_break::<b'-'>(bytes),
         b'_' => are_in_break::<b'_'>(bytes),
         _ => are_in_break::<b'*'>(bytes),
     };
-    is_inside && has_three(marker, bytes)
+    is_inside && has_enough(marker, bytes)
 }
 
 /// Whether a byte is one that a thematic break is made of.
@@ -93,7 +96,7 @@ fn is_break_marker(b: u8) -> bool
 /// A thematic break from a place on (4.1 Thematic breaks): where it ends, which is the text's end.
 pub fn thematic(text: &str, at: usize) -> Option<usize>
     requires within { at ≤ length text.now }
-    ensures { result ≡ given (is_thematic_break (drop at text.now)) (length text.now) }
+    ensures end { result ≡ given (is_thematic_break (drop at text.now)) (length text.now) }
 {
     let bytes = bytes_from(text, at);
     let marker = first_plain(bytes)?;
@@ -109,17 +112,17 @@ pub fn thematic(text: &str, at: usize) -> Option<usize>
 /// Whether one or more of the marker are at a place, with only spaces and tabs after them.
 fn is_underline_of(marker: u8, text: &str, at: usize) -> bool
     requires { at ≤ length text.now }
-    ensures { result ≡ is_underline_of marker (drop at text.now) }
+    ensures underline { result ≡ is_underline_of marker (drop at text.now) }
 {
-    let behind = after_run(marker, text, at);
-    behind > at && is_blank_text(bytes_from(text, behind))
+    let beyond = after_run(marker, text, at);
+    beyond > at && is_blank_text(bytes_from(text, beyond))
 }
 
 /// An underline of a setext heading from a place on (4.3 Setext headings): the level that it gives, 1 or 2,
 /// and where it ends, which is the text's end.
 pub fn underline(text: &str, at: usize) -> Option<(u8, usize)>
     requires within { at ≤ length text.now }
-    ensures { result ≡ ending (underline (drop at text.now)) (length text.now) }
+    ensures underline { result ≡ ending (underline (drop at text.now)) (length text.now) }
 {
     if is_underline_of(b'=', text, at) {
         return Some((1, text.len()));
@@ -141,7 +144,7 @@ pub struct AtxHeading<'a> {
 
 /// A content without its closing sequence of `#`, if a space or tab is before that or nothing is.
 fn without_closing(content: &str) -> &str
-    ensures { result.now ≡ without_closing true content.now }
+    ensures content { result.now ≡ without_closing true content.now }
 {
     let bytes = content.as_bytes();
     let mut end = bytes.len();
@@ -162,12 +165,12 @@ pub fn atx(text: &str, at: usize) -> Option<(AtxHeading<'_>, usize)>
         ≡ Some (record { level = r.0.level; content = r.0.content.now })) }
     ensures end { IfSome result (λ r. r.1 ≡ length text.now) }
 {
-    let behind = after_run(b'#', text, at);
-    let level = behind - at;
-    if level == 0 || level > 6 || !is_at_gap(bytes_from(text, behind)) {
+    let beyond = after_run(b'#', text, at);
+    let level = beyond - at;
+    if level == 0 || level > 6 || !is_at_gap(bytes_from(text, beyond)) {
         return None;
     }
-    let content = trim(without_closing(trim(&text[behind..])));
+    let content = trim(without_closing(trim(&text[beyond..])));
     let level = level as u8;
     Some((AtxHeading { level, content }, text.len()))
 }
@@ -194,23 +197,23 @@ pub struct OpeningFence<'a> {
 fn fence_of(marker: u8, text: &str, at: usize) -> Option<OpeningFence<'_>>
     requires ascii { marker < 128 }
     requires boundary { IsCharBoundary text.now at }
-    ensures { MatchOption result (fence_of marker (drop at text.now) ≡ None)
+    ensures fence { MatchOption result (fence_of marker (drop at text.now) ≡ None)
         (λ f. fence_of marker (drop at text.now)
         ≡ Some (record { marker = f.kind.marker; count = f.kind.count; info = f.info.now })) }
 {
-    let behind = after_run(marker, text, at);
-    let count = behind - at;
+    let beyond = after_run(marker, text, at);
+    let count = beyond - at;
     if count < 3 {
         return None;
     }
     let kind = FenceKind { marker, count };
-    let info = trim(&text[behind..]);
+    let info = trim(&text[beyond..]);
     Some(OpeningFence { kind, info })
 }
 
 /// Whether a text has a backtick.
 fn has_backtick(text: &str) -> bool
-    ensures { result ≡ list_any (λ b. b == 96) text.now }
+    ensures held { result ≡ list_any (λ b. b == 96) text.now }
 {
     text.as_bytes().iter().any(|b| *b == b'`')
 }
@@ -236,19 +239,19 @@ pub fn fence(text: &str, at: usize) -> Option<(OpeningFence<'_>, usize)>
 /// Whether the text from a place on closes a fence.
 fn is_closing_fence(kind: FenceKind, text: &str, at: usize) -> bool
     requires { at ≤ length text.now }
-    ensures { (info : List ℕ) → result
+    ensures closes { (info : List ℕ) → result
         ≡ is_closing_fence (record { marker = kind.marker; count = kind.count; info = info })
         (drop at text.now) }
 {
-    let behind = after_run(kind.marker, text, at);
-    behind - at >= kind.count && is_blank_text(bytes_from(text, behind))
+    let beyond = after_run(kind.marker, text, at);
+    beyond - at >= kind.count && is_blank_text(bytes_from(text, beyond))
 }
 
 /// What closes an open fence, from a place on (4.5 Fenced code blocks): where it ends,
 /// which is the text's end.
 pub fn fence_end(kind: FenceKind, text: &str, at: usize) -> Option<usize>
     requires within { at ≤ length text.now }
-    ensures { (info : List ℕ) → result ≡ given
+    ensures end { (info : List ℕ) → result ≡ given
         (is_closing_fence (record { marker = kind.marker; count = kind.count; info = info })
         (drop at text.now))
         (length text.now) }

@@ -3,14 +3,13 @@
 ghost use Rattle.std.specs.Prelude.{◌≡◌, ℕ, ◌+◌, List, true, ◌==◌, ◌&&◌, ◌||◌, not, false, ◌≤◌, ◌<◌, suc};
 ghost use Rattle.std.specs.Prelude.{length, drop, slice_index, option_map, IfSome, IsUtf8, if◌then◌else◌};
 ghost use Rattle.std.specs.List.{list_all};
-ghost use Rattle.std.specs.Str.{IsCharBoundary};
+ghost use Rattle.std.specs.Str.{IsCharBoundary, byte};
 ghost use Rattle.cm_scan.specs.spans.Tags.{is_blank_byte};
 ghost use Rattle.cm_scan.specs.Words.{begins_with, ◌<|>◌};
 ghost use Rattle.cm_scan.specs.inlines.Links.{escapes_next, keep_if, up_to_closing};
 ghost use Rattle.cm_scan.specs.inlines.Links.{label, destination, title};
 ghost use Rattle.cm_scan.specs.inlines.Links.{bare_run, is_filled, opened_by};
 ghost use Rattle.cm_scan.specs.inlines.Links.{titled, untitled, link_definition};
-ghost use Rattle.cm_text.specs.Bytes.{less_than};
 ghost use Rattle.cm_scan.specs.Scanned.{reading_of, definition_with, IsAt};
 ghost use Rattle.cm_scan.specs.steps.LinkSteps.{closed_at, ended_at, title_end, ends_bare};
 ghost use Rattle.cm_scan.specs.steps.LinkSteps.{begins_character, is_barred, fits, blank_follows};
@@ -61,7 +60,7 @@ pub fn destination<'a>(text: &'a str, at: usize) -> Option<(&'a str, usize)>
     ensures utf8 { IfSome result (λ read. IsUtf8 read.0.now) }
     ensures boundary { IfSome result (λ read. IsCharBoundary text.now read.1) }
     ensures place { IfSome result (λ read.
-        IsAt text.now (if begins_with less_than (drop at text.now) then at + 1 else at) read.0.now) }
+        IsAt text.now (if begins_with (byte "<") (drop at text.now) then at + 1 else at) read.0.now) }
 {
     if !is_next(text.as_bytes(), at, b'<') {
         return bare(text, at);
@@ -180,7 +179,7 @@ fn end_of_title(b: u8) -> Option<u8>
 
 /// Whether there is nothing but spaces, tabs and line feeds.
 fn is_blank(text: &str) -> bool
-    ensures { result ≡ list_all is_blank_byte text.now }
+    ensures blank { result ≡ list_all is_blank_byte text.now }
 {
     text.bytes().all(is_blank_byte)
 }
@@ -235,10 +234,10 @@ fn closed(text: &[u8], from: usize, bounds: Bounds) -> Option<usize>
     let mut at = from;
     while at < text.len() {
         if left > 0 && is_plain(text[at]) {
-            let behind = plain_end(text, at + 1, left - 1);
-            left -= behind - at;
+            let beyond = plain_end(text, at + 1, left - 1);
+            left -= beyond - at;
             escaped = false;
-            at = behind;
+            at = beyond;
             continue;
         }
         if is_end(text[at], escaped, bounds) {
@@ -411,7 +410,7 @@ fn is_end(b: u8, escaped: bool, bounds: Bounds) -> bool
 /// Whether no part can hold the byte there.
 fn is_refused(text: &[u8], at: usize, left: usize, escaped: bool, bounds: Bounds) -> bool
     requires { at < length text.now }
-    ensures { result ≡ is_refused left bounds.blank_lines
+    ensures refused { result ≡ is_refused left bounds.blank_lines
         (not escaped && is_barred bounds.open bounds.one_line (slice_index text.now at))
         (slice_index text.now at) (drop (suc at) text.now) }
 {
@@ -436,14 +435,14 @@ fn begins_character(b: u8) -> bool
 /// Whether a blank line follows the line feed there.
 fn begins_blank_line(text: &[u8], at: usize) -> bool
     requires { at < length text.now }
-    ensures { result ≡ blank_follows (slice_index text.now at) (drop (suc at) text.now) }
+    ensures blank { result ≡ blank_follows (slice_index text.now at) (drop (suc at) text.now) }
 {
     text[at] == b'\n' && is_next(text, after_blanks(text, at + 1), b'\n')
 }
 
 /// Whether the byte is at a place.
 pub fn is_next(text: &[u8], at: usize, b: u8) -> bool
-    ensures { result ≡ begins_with b (drop at text.now) }
+    ensures next { result ≡ begins_with b (drop at text.now) }
 {
     text.get(at) == Some(&b)
 }
@@ -451,7 +450,7 @@ pub fn is_next(text: &[u8], at: usize, b: u8) -> bool
 /// Whether the byte there escapes the next one (2.4 Backslash escapes), unless it is escaped itself.
 fn escapes_next(text: &[u8], at: usize, escaped: bool) -> bool
     requires { at < length text.now }
-    ensures { result ≡ (not escaped && escapes_next (slice_index text.now at) (drop (suc at) text.now)) }
+    ensures escapes { result ≡ (not escaped && escapes_next (slice_index text.now at) (drop (suc at) text.now)) }
 {
     if escaped || text[at] != b'\\' || at + 1 == text.len() {
         return false;

@@ -3,7 +3,8 @@ ghost use Rattle.std.specs.Prelude.{◌≡◌, ◌+◌, ◌-◌, ◌==◌, ◌<�
 ghost use Rattle.std.specs.Prelude.{Some, None, length, drop, MatchOption, IfSome};
 ghost use Rattle.std.specs.List.{fold};
 ghost use Rattle.std.specs.Str.{IsCharBoundary};
-ghost use Rattle.cm_scan.specs.Words.{is_digit, front_of, skip};
+ghost use Rattle.std.specs.Char.{is_ascii_digit};
+ghost use Rattle.cm_scan.specs.Words.{front_of, skip};
 ghost use Rattle.cm_scan.specs.blocks.LineForms.{item_marker, is_same_kind, bullet_kind};
 ghost use Rattle.cm_scan.specs.blocks.LineForms.{ordered_kind, decimal_value, most_digits};
 ghost use Rattle.cm_scan.specs.steps.LineSteps.{with_digit};
@@ -63,13 +64,13 @@ fn number_at(text: &str, at: usize) -> (u32, usize)
     requires { at ≤ length text.now }
     ensures begin { at ≤ result.1 }
     ensures within { result.1 ≤ length text.now }
-    ensures count { result.1 + length (front_of is_digit (drop result.1 text.now))
-        ≡ at + length (front_of is_digit (drop at text.now)) }
-    ensures value { fold with_digit result.0 (front_of is_digit (drop result.1 text.now))
-        ≡ decimal_value (front_of is_digit (drop at text.now)) }
-    ensures left { skip is_digit (drop result.1 text.now) ≡ skip is_digit (drop at text.now) }
+    ensures count { result.1 + length (front_of is_ascii_digit (drop result.1 text.now))
+        ≡ at + length (front_of is_ascii_digit (drop at text.now)) }
+    ensures value { fold with_digit result.0 (front_of is_ascii_digit (drop result.1 text.now))
+        ≡ decimal_value (front_of is_ascii_digit (drop at text.now)) }
+    ensures left { skip is_ascii_digit (drop result.1 text.now) ≡ skip is_ascii_digit (drop at text.now) }
     ensures few { result.1 - at ≤ most_digits }
-    ensures whole { result.1 - at < most_digits → front_of is_digit (drop result.1 text.now) ≡ [] }
+    ensures whole { result.1 - at < most_digits → front_of is_ascii_digit (drop result.1 text.now) ≡ [] }
 {
     let bytes = text.as_bytes();
     let mut number = 0;
@@ -97,11 +98,11 @@ pub fn item_marker(text: &str, at: usize) -> Option<(ItemMarker, usize)>
     }
     let digits = end - at;
     let kind = kind_of(digits, number, bytes[end])?;
-    let behind = end + 1;
-    if !is_at_gap(bytes_from(text, behind)) {
+    let beyond = end + 1;
+    if !is_at_gap(bytes_from(text, beyond)) {
         return None;
     }
-    Some((ItemMarker { kind, digits }, behind))
+    Some((ItemMarker { kind, digits }, beyond))
 }
 
 /// Whether items of the two kinds belong to one list (5.3 Lists).

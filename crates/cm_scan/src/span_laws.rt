@@ -1,11 +1,11 @@
 //! Laws of code spans, autolinks and raw HTML. Each is the contract of a public function with an empty body.
 ghost use Rattle.std.specs.Prelude.{[], codes};
 ghost use Rattle.cm_scan.specs.laws.SpanExamples.{AutolinkExamples, CodeSpanExamples};
-ghost use Rattle.cm_scan.specs.laws.SpanExamples.{OlderExamples, RawHtmlExamples};
+ghost use Rattle.cm_scan.specs.laws.SpanExamples.{OlderExamples, RawHtmlExamples, ReachExamples};
 ghost use Rattle.cm_scan.specs.laws.SpanLaws.{RawHtmlGoesOn, WholeRawHtmlGoesOn};
 ghost use Rattle.cm_scan.specs.laws.SpanLaws.{AutolinkGoesOn, NoAutolinkGoesOn};
 ghost use Rattle.cm_scan.specs.laws.SpanLaws.{CodeSpanGoesOn, AngledGoesOn};
-ghost use Rattle.cm_scan.specs.laws.SpanLaws.{WholeTagGoesOn, OlderIsRead, NeedsEnd};
+ghost use Rattle.cm_scan.specs.laws.SpanLaws.{WholeTagGoesOn, OlderIsRead, NeedsEnd, TagsReachThrice};
 
 /// Raw HTML at the start of a text is the same with anything after the text.
 pub fn raw_html_goes_on()
@@ -43,9 +43,15 @@ pub fn raw_html_needs_its_end()
     ensures any { NeedsEnd [] (codes ">") }
 {}
 
+/// The tags that start at all places of a text reach over each of its bytes at most three times together.
+pub fn tags_reach_thrice()
+    ensures { TagsReachThrice }
+{}
+
 /// Worked examples of raw HTML, autolinks and code spans, by computation.
 pub fn span_examples()
     ensures read { RawHtmlExamples }
+    ensures reach { ReachExamples }
     ensures older { OlderExamples }
     ensures links { AutolinkExamples }
     ensures spans { CodeSpanExamples }

@@ -1,32 +1,40 @@
 //! Tags of HTML (CommonMark 0.31.2, 6.6 Raw HTML). Each call reads a part of a tag, and returns the rest of
 //! the text.
 //!
+//! What they look at is bounded by how far a tag may reach (`tag_reach`).
+//!
 //! The grammar of tags is unambiguous, and where a value fails the whole tag does. So the next byte decides,
 //! and nothing is read twice.
-ghost use Rattle.std.specs.Prelude.{◌≡◌, suc, [], ◌∷◌, Some, None, length, codes, MatchOption};
-ghost use Rattle.cm_scan.specs.Words.{is_letter, skip, after_word};
+ghost use Rattle.std.specs.Prelude.{◌≡◌, ◌+◌, ◌*◌, ◌<◌, ◌≤◌, ◌⊎◌, ℕ, Bool, suc, [], ◌∷◌, Some, None, length};
+ghost use Rattle.std.specs.Prelude.{codes, IfSome, MatchOption};
+ghost use Rattle.std.specs.Char.{is_ascii_alphabetic};
+ghost use Rattle.cm_scan.specs.Words.{skip, trim_start, after_word};
 ghost use Rattle.cm_scan.specs.spans.Tags.{begins_attribute, continues_attribute, is_unquoted, after_gap};
 ghost use Rattle.cm_scan.specs.spans.Tags.{after_quoted, after_value, after_specification, after_attribute};
 ghost use Rattle.cm_scan.specs.spans.Tags.{after_tag_end, after_attributes, tag_name, open_tag, closing_tag};
+ghost use Rattle.cm_scan.specs.spans.Tags.{is_blank_next};
 ghost use Rattle.cm_scan.specs.steps.TagNames.{continues_name};
+ghost use Rattle.cm_scan.specs.spans.Reach.{tag_reach};
+ghost use Rattle.cm_scan.specs.steps.SpanSteps.{gap_length};
 
-use crate::gaps::{self, is_blank_byte, is_blank_next};
-use crate::words::{is_digit, skip_while};
-use memchr::memchr;
+use crate::gaps::is_blank_byte;
+use crate::words::{is_digit, is_space_or_tab};
+use cm_text::{Looks, Rest};
+use std::sync::ledger::Ledger;
 
-/// A tag's name, and the bytes after the tag or the name.
-#[derive(Clone, Copy, Debug, PartialEq, Eq)]
+/// A tag's name, and what is left after the tag or the name.
+#[derive(Drop)]
 pub(crate) struct Tag<'a> {
     /// The name as in the source.
     pub(crate) name: &'a [u8],
     /// What is left.
-    pub(crate) rest: &'a [u8],
+    pub(crate) rest: Rest<'a>,
 }
 
 /// Whether a byte is an ASCII letter.
 #[inline(always)]
 pub(crate) fn is_letter(b: u8) -> bool
-    ensures { result ≡ is_letter b }
+    ensures { result ≡ is_ascii_alphabetic b }
 {
     b.is_ascii_alphabetic()
 }
@@ -72,7 +80,7 @@ fn is_unquoted(b: u8) -> bool
 /// The first byte and the others.
 #[inline(always)]
 pub(crate) fn first_of(bytes: &[u8]) -> Option<(u8, &[u8])>
-    ensures { MatchOption result (bytes.now ≡ []) (λ r. bytes.now ≡ r.0 ∷ r.1.now) }
+    ensures read { MatchOption result (bytes.now ≡ []) (λ r. bytes.now ≡ r.0 ∷ r.1.now) }
 {
     let [b, ..] = bytes else {
         return None;
@@ -80,154 +88,224 @@ pub(crate) fn first_of(bytes: &[u8]) -> Option<(u8, &[u8])>
     Some((*b, &bytes[1..]))
 }
 
-/// The bytes after those that continue a tag's name.
-fn skip_name(bytes: &[u8]) -> &[u8]
-    ensures { result.now ≡ skip continues_name bytes.now }
+/// What is left after the first bytes that pass a test: a look at each of them, and one more.
+#[inline(always)]
+fn skip_passing<'a, L: Ledger, F: Fn(u8) -> bool>(
+    bytes: &Rest<'a>,
+    test: F,
+    looks: &mut Looks<L>,
+) -> Rest<'a>
+    requires { F.IsAlwaysCallable test }
+    ensures skipped { (passes : ℕ → Bool) →
+        ((b : ℕ) (told : Bool) → b < 256 → F.post test b told → told ≡ passes b)
+        → result ≡ skip passes bytes.now }
+    ensures shorter { length result ≤ length bytes.now }
+    ensures looks { looks.new + length result ≡ looks.old + length bytes.now + 1 }
 {
-    skip_while(bytes, continues_name)
+    bytes.skip(test, looks)
 }
 
-/// The bytes after those that continue an attribute's name.
-fn skip_attribute(bytes: &[u8]) -> &[u8]
-    ensures { result.now ≡ skip continues_attribute bytes.now }
+/// What is left after the bytes that continue a tag's name.
+fn skip_name<'a, L: Ledger>(bytes: &Rest<'a>, looks: &mut Looks<L>) -> Rest<'a>
+    ensures skipped { result ≡ skip continues_name bytes.now }
+    ensures shorter { length result ≤ length bytes.now }
+    ensures looks { looks.new + length result ≡ looks.old + length bytes.now + 1 }
 {
-    skip_while(bytes, continues_attribute)
+    skip_passing(bytes, continues_name, looks)
 }
 
-/// The bytes after those of an unquoted value.
-fn skip_unquoted(bytes: &[u8]) -> &[u8]
-    ensures { result.now ≡ skip is_unquoted bytes.now }
+/// What is left after the bytes that continue an attribute's name.
+fn skip_attribute<'a, L: Ledger>(bytes: &Rest<'a>, looks: &mut Looks<L>) -> Rest<'a>
+    ensures skipped { result ≡ skip continues_attribute bytes.now }
+    ensures shorter { length result ≤ length bytes.now }
+    ensures looks { looks.new + length result ≡ looks.old + length bytes.now + 1 }
 {
-    skip_while(bytes, is_unquoted)
+    skip_passing(bytes, continues_attribute, looks)
 }
 
-/// The bytes after spaces, tabs, and up to one line ending.
-fn after_gap(bytes: &[u8]) -> &[u8]
-    ensures { result.now ≡ after_gap bytes.now }
+/// What is left after the bytes of an unquoted value.
+fn skip_unquoted<'a, L: Ledger>(bytes: &Rest<'a>, looks: &mut Looks<L>) -> Rest<'a>
+    ensures skipped { result ≡ skip is_unquoted bytes.now }
+    ensures shorter { length result ≤ length bytes.now }
+    ensures looks { looks.new + length result ≡ looks.old + length bytes.now + 1 }
 {
-    &bytes[gaps::after_gap(bytes, 0)..]
+    skip_passing(bytes, is_unquoted, looks)
 }
 
-/// The bytes after a value that ends with this quotation mark.
-fn after_quoted(quote: u8, bytes: &[u8]) -> Option<&[u8]>
-    ensures { MatchOption result (after_quoted quote bytes.now ≡ None)
-        (λ rest. after_quoted quote bytes.now ≡ Some rest.now) }
+/// What is left after spaces and tabs.
+fn skip_blanks<'a, L: Ledger>(bytes: &Rest<'a>, looks: &mut Looks<L>) -> Rest<'a>
+    ensures skipped { result ≡ trim_start bytes.now }
+    ensures shorter { length result ≤ length bytes.now }
+    ensures looks { looks.new + length result ≡ looks.old + length bytes.now + 1 }
 {
-    let at = memchr(quote, bytes)?;
-    Some(&bytes[at + 1..])
+    skip_passing(bytes, is_space_or_tab, looks)
 }
 
-/// The bytes after the value of an attribute: in double quotes, in single quotes, or unquoted.
+/// What is left after spaces, tabs, and up to one line ending.
+#[tactic(auto, unfolding(crate::specs::spans::Tags::after_gap))]
+fn after_gap<'a, L: Ledger>(bytes: &Rest<'a>, looks: &mut Looks<L>) -> Rest<'a>
+    ensures skipped { result ≡ after_gap bytes.now }
+    ensures shorter { length result ≤ length bytes.now }
+    ensures looks { looks.new + length result ≤ looks.old + length bytes.now + 3 }
+{
+    let line = skip_blanks(bytes, looks);
+    let Some((b, beyond)) = line.first(looks) else {
+        return line;
+    };
+    if b != b'\n' {
+        return line;
+    }
+    skip_blanks(&beyond, looks)
+}
+
+/// What is left after a value that ends with this quotation mark.
+fn after_quoted<'a, L: Ledger>(
+    quote: u8,
+    bytes: &Rest<'a>,
+    looks: &mut Looks<L>,
+) -> Option<Rest<'a>>
+    ensures read { result ≡ after_quoted quote bytes.now }
+    ensures some { (quote ≡ 34) ⊎ (quote ≡ 39) → IfSome result (λ rest.
+        looks.new + 8 * tag_reach 0 rest ≤ looks.old + 8 * tag_reach quote bytes.now) }
+    ensures none { (quote ≡ 34) ⊎ (quote ≡ 39) → result ≡ None
+        → looks.new ≤ looks.old + 8 * tag_reach quote bytes.now }
+{
+    let at = bytes.find_byte(quote, looks)?;
+    Some(bytes.after(at + 1))
+}
+
+/// What is left after the value of an attribute: in double quotes, in single quotes, or unquoted.
 #[tactic(auto, unfolding(crate::specs::spans::Tags::after_value, crate::specs::spans::Tags::after_unquoted))]
-fn after_value(bytes: &[u8]) -> Option<&[u8]>
-    ensures { MatchOption result (after_value bytes.now ≡ None)
-        (λ rest. after_value bytes.now ≡ Some rest.now) }
+fn after_value<'a, L: Ledger>(bytes: &Rest<'a>, looks: &mut Looks<L>) -> Option<Rest<'a>>
+    ensures read { result ≡ after_value bytes.now }
+    ensures some { IfSome result (λ rest.
+        looks.new + 8 * tag_reach 0 rest ≤ looks.old + 8 * tag_reach 0 bytes.now) }
+    ensures none { result ≡ None → looks.new ≤ looks.old + 8 * tag_reach 0 bytes.now }
 {
-    let (b, behind) = first_of(bytes)?;
+    let (b, beyond) = bytes.first(looks)?;
     if b == b'"' || b == b'\'' {
-        return after_quoted(b, behind);
+        return after_quoted(b, &beyond, looks);
     }
     if !is_unquoted(b) {
         return None;
     }
-    Some(skip_unquoted(behind))
+    Some(skip_unquoted(&beyond, looks))
 }
 
-/// The bytes after the value of an attribute with its `=`, if one comes next.
+/// What is left after the value of an attribute with its `=`, if one comes next.
 #[tactic(auto, unfolding(crate::specs::spans::Tags::after_specification, crate::specs::Words::after_word))]
-fn after_specification(bytes: &[u8]) -> Option<&[u8]>
-    ensures { MatchOption result (after_specification bytes.now ≡ None)
-        (λ rest. after_specification bytes.now ≡ Some rest.now) }
+fn after_specification<'a, L: Ledger>(bytes: &Rest<'a>, looks: &mut Looks<L>) -> Option<Rest<'a>>
+    ensures read { result ≡ after_specification bytes.now }
+    ensures some { IfSome result (λ rest. looks.new + 8 * tag_reach 0 rest
+        ≤ looks.old + 8 * tag_reach 0 bytes.now + gap_length rest + 4) }
+    ensures none { result ≡ None → looks.new ≤ looks.old + 8 * tag_reach 0 bytes.now + 4 }
 {
-    let Some((b, behind)) = first_of(after_gap(bytes)) else {
-        return Some(bytes);
+    let Some((b, beyond)) = after_gap(bytes, looks).first(looks) else {
+        return Some(bytes.again());
     };
     if b != b'=' {
-        return Some(bytes);
+        return Some(bytes.again());
     }
-    after_value(after_gap(behind))
+    after_value(&after_gap(&beyond, looks), looks)
 }
 
-/// The bytes after an attribute.
+/// What is left after an attribute.
 #[tactic(auto, unfolding(crate::specs::spans::Tags::after_attribute))]
-fn after_attribute(bytes: &[u8]) -> Option<&[u8]>
-    ensures { MatchOption result (after_attribute bytes.now ≡ None)
-        (λ rest. after_attribute bytes.now ≡ Some rest.now) }
+fn after_attribute<'a, L: Ledger>(bytes: &Rest<'a>, looks: &mut Looks<L>) -> Option<Rest<'a>>
+    ensures read { result ≡ after_attribute bytes.now }
+    ensures some { IfSome result (λ rest. looks.new + 8 * tag_reach 0 rest + 2
+        ≤ looks.old + 8 * tag_reach 0 bytes.now + gap_length rest) }
+    ensures none { result ≡ None → looks.new ≤ looks.old + 8 * tag_reach 0 bytes.now }
 {
-    let (b, behind) = first_of(bytes)?;
+    let (b, beyond) = bytes.first(looks)?;
     if !begins_attribute(b) {
         return None;
     }
-    after_specification(skip_attribute(behind))
+    after_specification(&skip_attribute(&beyond, looks), looks)
 }
 
-/// The bytes after a `>`.
+/// What is left after a `>`.
 #[tactic(auto, unfolding(crate::specs::Words::after_word))]
-fn after_bracket(bytes: &[u8]) -> Option<&[u8]>
-    ensures { MatchOption result (after_word (codes ">") bytes.now ≡ None)
-        (λ rest. after_word (codes ">") bytes.now ≡ Some rest.now) }
+fn after_bracket<'a, L: Ledger>(bytes: &Rest<'a>, looks: &mut Looks<L>) -> Option<Rest<'a>>
+    ensures read { result ≡ after_word (codes ">") bytes.now }
+    ensures looks { looks.new ≡ looks.old + 1 }
 {
-    let (b, behind) = first_of(bytes)?;
+    let (b, beyond) = bytes.first(looks)?;
     if b != b'>' {
         return None;
     }
-    Some(behind)
+    Some(beyond)
 }
 
-/// The bytes after the end of an open tag: `/` or not, and `>`.
+/// What is left after the end of an open tag: `/` or not, and `>`.
 #[tactic(auto, unfolding(crate::specs::spans::Tags::after_tag_end, crate::specs::Words::after_word))]
-fn after_tag_end(bytes: &[u8]) -> Option<&[u8]>
-    ensures { MatchOption result (after_tag_end bytes.now ≡ None)
-        (λ rest. after_tag_end bytes.now ≡ Some rest.now) }
+fn after_tag_end<'a, L: Ledger>(bytes: &Rest<'a>, looks: &mut Looks<L>) -> Option<Rest<'a>>
+    ensures read { result ≡ after_tag_end bytes.now }
+    ensures looks { looks.new ≤ looks.old + 2 }
 {
-    let (b, behind) = first_of(bytes)?;
+    let (b, beyond) = bytes.first(looks)?;
     if b != b'/' {
-        return after_bracket(bytes);
+        return after_bracket(bytes, looks);
     }
-    after_bracket(behind)
+    after_bracket(&beyond, looks)
 }
 
-/// The bytes after the attributes and the end of an open tag.
-fn after_attributes(bytes: &[u8]) -> Option<&[u8]>
-    ensures { MatchOption result (after_attributes (suc (length bytes.now)) bytes.now ≡ None)
-        (λ rest. after_attributes (suc (length bytes.now)) bytes.now ≡ Some rest.now) }
+/// Whether a space, a tab or a line feed comes next.
+fn is_blank_next<L: Ledger>(bytes: &Rest<'_>, looks: &mut Looks<L>) -> bool
+    ensures blank { result ≡ is_blank_next bytes.now }
+    ensures looks { looks.new ≡ looks.old + 1 }
 {
-    let mut text = bytes;
+    match bytes.first(looks) {
+        Some((b, _)) => is_blank_byte(b),
+        None => false,
+    }
+}
+
+/// What is left after the attributes and the end of an open tag.
+fn after_attributes<'a, L: Ledger>(bytes: &Rest<'a>, looks: &mut Looks<L>) -> Option<Rest<'a>>
+    ensures read { result ≡ after_attributes (suc (length bytes.now)) bytes.now }
+    ensures looks { looks.new ≤ looks.old + 8 * tag_reach 0 bytes.now }
+{
+    let mut text = bytes.again();
     for _ in 0..=bytes.len() {
-        let inside = after_gap(text);
-        if let Some(rest) = after_tag_end(inside) {
+        let inside = after_gap(&text, looks);
+        if let Some(rest) = after_tag_end(&inside, looks) {
             return Some(rest);
         }
-        if !is_blank_next(text, 0) {
+        if !is_blank_next(&text, looks) {
             return None;
         }
-        text = after_attribute(inside)?;
+        text = after_attribute(&inside, looks)?;
     }
     None
 }
 
-/// The name of a tag, and the bytes after it.
-pub(crate) fn tag_name(bytes: &[u8]) -> Option<Tag<'_>>
-    ensures { MatchOption result (tag_name bytes.now ≡ None)
-        (λ tag. tag_name bytes.now ≡ Some (record { name = tag.name.now; rest = tag.rest.now })) }
+/// The name of a tag, and what is left after it.
+pub(crate) fn tag_name<'a, L: Ledger>(bytes: &Rest<'a>, looks: &mut Looks<L>) -> Option<Tag<'a>>
+    ensures read { MatchOption result (tag_name bytes.now ≡ None)
+        (λ tag. tag_name bytes.now ≡ Some (record { name = tag.name.now; rest = tag.rest })) }
+    ensures some { IfSome result (λ tag.
+        looks.new + 8 * tag_reach 0 tag.rest + 5 ≤ looks.old + 8 * tag_reach 0 bytes.now) }
+    ensures none { result ≡ None → looks.new ≤ looks.old + 1 }
 {
-    let (b, behind) = first_of(bytes)?;
+    let (b, beyond) = bytes.first(looks)?;
     if !is_letter(b) {
         return None;
     }
-    let rest = skip_name(behind);
-    let name = &bytes[..bytes.len() - rest.len()];
+    let rest = skip_name(&beyond, looks);
+    let name = bytes.lend(bytes.len() - rest.len(), looks);
     Some(Tag { name, rest })
 }
 
 /// An open tag, after its `<`.
 #[inline(always)]
-pub(crate) fn open_tag(inside: &[u8]) -> Option<Tag<'_>>
-    ensures { MatchOption result (open_tag (60 ∷ inside.now) ≡ None)
-        (λ tag. open_tag (60 ∷ inside.now) ≡ Some (record { name = tag.name.now; rest = tag.rest.now })) }
+pub(crate) fn open_tag<'a, L: Ledger>(inside: &Rest<'a>, looks: &mut Looks<L>) -> Option<Tag<'a>>
+    ensures read { MatchOption result (open_tag (60 ∷ inside.now) ≡ None)
+        (λ tag. open_tag (60 ∷ inside.now) ≡ Some (record { name = tag.name.now; rest = tag.rest })) }
+    ensures looks { looks.new ≤ looks.old + 8 * tag_reach 0 inside.now }
 {
-    let tag = tag_name(inside)?;
-    let rest = after_attributes(tag.rest)?;
+    let tag = tag_name(inside, looks)?;
+    let rest = after_attributes(&tag.rest, looks)?;
     Some(Tag {
         name: tag.name,
         rest,
@@ -235,13 +313,14 @@ pub(crate) fn open_tag(inside: &[u8]) -> Option<Tag<'_>>
 }
 
 /// A closing tag, after its `</`.
-pub(crate) fn closing_tag(inside: &[u8]) -> Option<Tag<'_>>
-    ensures { MatchOption result (closing_tag (60 ∷ 47 ∷ inside.now) ≡ None)
+pub(crate) fn closing_tag<'a, L: Ledger>(inside: &Rest<'a>, looks: &mut Looks<L>) -> Option<Tag<'a>>
+    ensures read { MatchOption result (closing_tag (60 ∷ 47 ∷ inside.now) ≡ None)
         (λ tag. closing_tag (60 ∷ 47 ∷ inside.now)
-        ≡ Some (record { name = tag.name.now; rest = tag.rest.now })) }
+        ≡ Some (record { name = tag.name.now; rest = tag.rest })) }
+    ensures looks { looks.new ≤ looks.old + 8 * tag_reach 0 inside.now }
 {
-    let tag = tag_name(inside)?;
-    let rest = after_bracket(after_gap(tag.rest))?;
+    let tag = tag_name(inside, looks)?;
+    let rest = after_bracket(&after_gap(&tag.rest, looks), looks)?;
     Some(Tag {
         name: tag.name,
         rest,

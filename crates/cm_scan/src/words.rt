@@ -2,10 +2,11 @@
 ghost use Rattle.std.specs.Prelude.{◌≡◌, ◌+◌, ◌<◌, ◌≤◌, ℕ, Bool, length, drop};
 ghost use Rattle.std.specs.List.{find};
 ghost use Rattle.std.specs.Str.{IsCharBoundary};
-ghost use Rattle.cm_scan.specs.Words.{is_space_or_tab, is_digit, skip, run_length, after_run};
-ghost use Rattle.cm_scan.specs.Words.{trim_start, is_trimmed, trim_end_by, trim_end};
+ghost use Rattle.std.specs.Char.{is_ascii_digit};
+ghost use Rattle.cm_scan.specs.Words.{is_space_or_tab, skip, run_length, after_run};
+ghost use Rattle.cm_scan.specs.Words.{trim_start, trim_end_by, trim_end};
 ghost use Rattle.cm_scan.specs.Words.{trim_end_spaces, trim, is_blank_text, is_at_gap};
-ghost use Rattle.cm_scan.specs.steps.LineSteps.{is_plain};
+ghost use Rattle.cm_scan.specs.steps.LineSteps.{is_plain, is_trimmed};
 
 /// Whether a byte is a space or a tab.
 #[inline(always)]
@@ -18,7 +19,7 @@ pub(crate) fn is_space_or_tab(b: u8) -> bool
 /// Whether a byte is a decimal digit.
 #[inline(always)]
 pub(crate) fn is_digit(b: u8) -> bool
-    ensures { result ≡ is_digit b }
+    ensures { result ≡ is_ascii_digit b }
 {
     b.is_ascii_digit()
 }
@@ -27,7 +28,7 @@ pub(crate) fn is_digit(b: u8) -> bool
 #[inline(always)]
 pub(crate) fn bytes_from(text: &str, at: usize) -> &[u8]
     requires { at ≤ length text.now }
-    ensures { result.now ≡ drop at text.now }
+    ensures rest { result.now ≡ drop at text.now }
 {
     &text.as_bytes()[at..]
 }
@@ -36,7 +37,7 @@ pub(crate) fn bytes_from(text: &str, at: usize) -> &[u8]
 #[inline(always)]
 pub(crate) fn skip_while<F: Fn(u8) -> bool>(bytes: &[u8], test: F) -> &[u8]
     requires { F.IsAlwaysCallable test }
-    ensures { (passes : ℕ → Bool) →
+    ensures skipped { (passes : ℕ → Bool) →
         ((b : ℕ) (told : Bool) → b < 256 → F.post test b told → told ≡ passes b)
         → result.now ≡ skip passes bytes.now }
 {
@@ -54,7 +55,7 @@ pub fn after_run(marker: u8, text: &str, at: usize) -> usize
     requires { at ≤ length text.now }
     ensures end { result ≡ at + run_length marker (drop at text.now) }
     ensures within { result ≤ length text.now }
-    ensures behind { drop result text.now ≡ after_run marker (drop at text.now) }
+    ensures beyond { drop result text.now ≡ after_run marker (drop at text.now) }
     ensures boundary { marker < 128 → IsCharBoundary text.now at → IsCharBoundary text.now result }
 {
     let bytes = text.as_bytes();
@@ -67,14 +68,14 @@ pub fn after_run(marker: u8, text: &str, at: usize) -> usize
 
 /// The first byte that is neither a space nor a tab.
 pub(crate) fn first_plain(bytes: &[u8]) -> Option<u8>
-    ensures { result ≡ find is_plain bytes.now }
+    ensures found { result ≡ find is_plain bytes.now }
 {
     bytes.iter().copied().find(|b| !is_space_or_tab(*b))
 }
 
 /// Whether there are only spaces and tabs, as in a blank line (2.1 Characters and lines).
 pub fn is_blank_text(bytes: &[u8]) -> bool
-    ensures { result ≡ is_blank_text bytes.now }
+    ensures blank { result ≡ is_blank_text bytes.now }
 {
     bytes.iter().all(|b| is_space_or_tab(*b))
 }
@@ -82,7 +83,7 @@ pub fn is_blank_text(bytes: &[u8]) -> bool
 /// Whether a space, a tab or the end comes next.
 #[inline(always)]
 pub(crate) fn is_at_gap(bytes: &[u8]) -> bool
-    ensures { result ≡ is_at_gap bytes.now }
+    ensures gap { result ≡ is_at_gap bytes.now }
 {
     match bytes {
         [b, ..] => is_space_or_tab(*b),
@@ -92,7 +93,7 @@ pub(crate) fn is_at_gap(bytes: &[u8]) -> bool
 
 /// The text without the spaces and tabs at its start.
 pub(crate) fn trim_start(text: &str) -> &str
-    ensures { result.now ≡ trim_start text.now }
+    ensures trimmed { result.now ≡ trim_start text.now }
 {
     let bytes = text.as_bytes();
     let mut start = 0;
@@ -113,7 +114,7 @@ fn is_trimmed(tabs: bool, b: u8) -> bool
 /// The text without the spaces at its end, and without the tabs where these go too.
 #[inline(always)]
 fn trim_end_by(tabs: bool, text: &str) -> &str
-    ensures { result.now ≡ trim_end_by tabs text.now }
+    ensures trimmed { result.now ≡ trim_end_by (is_trimmed tabs) text.now }
 {
     let bytes = text.as_bytes();
     let mut end = bytes.len();
@@ -125,21 +126,21 @@ fn trim_end_by(tabs: bool, text: &str) -> &str
 
 /// The text without the spaces and tabs at its end, as in the last line of a paragraph (4.8 Paragraphs).
 pub fn trim_end(text: &str) -> &str
-    ensures { result.now ≡ trim_end text.now }
+    ensures trimmed { result.now ≡ trim_end text.now }
 {
     trim_end_by(true, text)
 }
 
 /// The text without the spaces at its end, as before a soft line break (6.8 Soft line breaks).
 pub fn trim_end_spaces(text: &str) -> &str
-    ensures { result.now ≡ trim_end_spaces text.now }
+    ensures trimmed { result.now ≡ trim_end_spaces text.now }
 {
     trim_end_by(false, text)
 }
 
 /// The text without the spaces and tabs at both ends.
 pub(crate) fn trim(text: &str) -> &str
-    ensures { result.now ≡ trim text.now }
+    ensures trimmed { result.now ≡ trim text.now }
 {
     trim_end(trim_start(text))
 }

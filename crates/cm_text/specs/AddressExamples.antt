@@ -15,8 +15,8 @@ pub record AddressExamples : Type 0 where
   pub mail : is_web_address (codes "MailTo:a@b") ≡ true
   pub script : is_web_address (codes "javascript:alert(1)") ≡ false
   pub script_in_capitals : is_web_address (codes "JAVASCRIPT:alert(1)") ≡ false
-  pub script_behind_a_space : is_web_address (codes " javascript:alert(1)") ≡ false
-  pub script_behind_a_control : is_web_address (1 ∷ codes "javascript:alert(1)") ≡ false
+  pub script_after_a_space : is_web_address (codes " javascript:alert(1)") ≡ false
+  pub script_after_a_control : is_web_address (1 ∷ codes "javascript:alert(1)") ≡ false
   pub script_around_a_tab : is_web_address (codes "java\tscript:alert(1)") ≡ false
   pub script_around_a_line_feed : is_web_address (codes "java\nscript:alert(1)") ≡ false
   pub script_by_references : is_web_address (unescape (codes "java&#115;cript&#x3A;alert(1)")) ≡ false

@@ -2,7 +2,7 @@
 use Rattle.std.specs.Prelude.{◌≡◌, ℕ, Bool, true, false, ◌==◌, if◌then◌else◌, List, [], ◌∷◌, ◌++◌, map, drop}
 use Rattle.std.specs.List.{fold}
 use Rattle.std.specs.String.{string_bytes}
-use Rattle.cm_text.specs.Bytes.{line_feed, carriage_return}
+use Rattle.std.specs.Str.{byte}
 use Rattle.cm_text.specs.declared.unread.Unread.{Unread}
 use Rattle.cm_text.specs.Lines.{LineView, plain_line, last_line, plain_lines_of, ended_lines_of}
 
@@ -28,8 +28,8 @@ end_line cut after_return =
 -- a cut after one more byte
 abbrev pub cut_byte : Cut → ℕ → Cut
 cut_byte cut b =
-    if b == line_feed then (if cut.after_return then record cut { after_return = false } else end_line cut false)
-    else (if b == carriage_return then end_line cut true else record cut { partial = cut.partial ++ b ∷ []; after_return = false })
+    if b == byte "\n" then (if cut.after_return then record cut { after_return = false } else end_line cut false)
+    else (if b == byte "\r" then end_line cut true else record cut { partial = cut.partial ++ b ∷ []; after_return = false })
 
 -- a cut after more text
 abbrev pub cut_more : Cut → List ℕ → Cut

@@ -1,4 +1,3 @@
-pub mod Bytes
 pub mod LineText
 pub mod Lines
 pub mod Devices
@@ -11,6 +10,7 @@ pub mod Answers
 pub mod Settled
 pub mod Feed
 pub mod WorkedExamples
+pub mod Trims
 pub mod Labels
 pub mod Writing
 pub mod Rules
@@ -24,3 +24,5 @@ pub mod TextLines
 pub mod steps
 pub mod Addresses
 pub mod AddressExamples
+pub mod LabelNumbers
+pub mod PlainLabels

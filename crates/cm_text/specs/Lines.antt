@@ -3,7 +3,7 @@ use Rattle.std.specs.Prelude.{◌≡◌, ◌≢◌, ℕ, Bool, true, false, ◌=
 use Rattle.std.specs.List.{flat_map, list_all}
 use Rattle.std.specs.Str.Lossy.{replacement_bytes}
 use Rattle.std.specs.String.{string_bytes}
-use Rattle.cm_text.specs.Bytes.{line_feed, carriage_return}
+use Rattle.std.specs.Str.{byte}
 use Rattle.cm_text.specs.declared.lines.Line.{Line}
 use Rattle.cm_text.specs.LineText.{is_line, is_line_ending}
 
@@ -24,14 +24,14 @@ pub data Ending : Type 0 where
 
 abbrev pub begins_with_line_feed : List ℕ → Bool
 begins_with_line_feed [] = false
-begins_with_line_feed (b ∷ bs) = b == line_feed
+begins_with_line_feed (b ∷ bs) = b == byte "\n"
 
 -- The text is this line, its ending and this rest. No line feed follows a carriage return that is an ending by
 -- itself, and a line that the end of the text ends isn't empty.
 abbrev pub Ends : Ending → List ℕ → List ℕ → List ℕ → Type 0
-Ends LineFeed line rest text = text ≡ line ++ line_feed ∷ rest
-Ends CarriageReturnLineFeed line rest text = text ≡ line ++ carriage_return ∷ line_feed ∷ rest
-Ends CarriageReturn line rest text = (text ≡ line ++ carriage_return ∷ rest) × (begins_with_line_feed rest ≡ false)
+Ends LineFeed line rest text = text ≡ line ++ byte "\n" ∷ rest
+Ends CarriageReturnLineFeed line rest text = text ≡ line ++ byte "\r" ∷ byte "\n" ∷ rest
+Ends CarriageReturn line rest text = (text ≡ line ++ byte "\r" ∷ rest) × (begins_with_line_feed rest ≡ false)
 Ends EndOfText line rest text = (text ≡ line) × (line ≢ []) × (rest ≡ [])
 
 -- These are the lines of the text: each is without line endings, and each followed by its ending they give the text.
@@ -50,9 +50,9 @@ last_line (b ∷ bs) = (b ∷ bs) ∷ []
 -- belongs to the same ending.
 abbrev pub lines_after : (after_return : Bool) (line text : List ℕ) → List (List ℕ)
 lines_after after_return line [] = last_line line
-lines_after after_return line (b ∷ bs) = elim (b == line_feed) [
+lines_after after_return line (b ∷ bs) = elim (b == byte "\n") [
   | true ↦ elim after_return [ true ↦ lines_after false line bs | false ↦ line ∷ lines_after false [] bs ]
-  | false ↦ elim (b == carriage_return) [ true ↦ line ∷ lines_after true [] bs | false ↦ lines_after false (line ++ b ∷ []) bs ]
+  | false ↦ elim (b == byte "\r") [ true ↦ line ∷ lines_after true [] bs | false ↦ lines_after false (line ++ b ∷ []) bs ]
 ]
 
 -- the lines of a text, computed from the left
@@ -107,7 +107,7 @@ LinesAreLines = (text : List ℕ) (lines : List (List ℕ)) → AreLinesOf text 
 
 -- a line followed by a line feed
 abbrev pub with_line_feed : List ℕ → List ℕ
-with_line_feed line = line ++ line_feed ∷ []
+with_line_feed line = line ++ byte "\n" ∷ []
 
 -- a text made of lines without endings, each followed by a line feed, has these lines
 abbrev pub LinesWithLineFeeds : Type 0

@@ -3,11 +3,10 @@
 use Rattle.std.specs.Prelude.{ℕ, ◌+◌, Bool, true, false, ◌==◌, ◌||◌, nat_lt, if◌then◌else◌, List, [], ◌∷◌, take, drop, length, Option, Some, None, codes}
 use Rattle.std.specs.Char.{is_ascii_digit, is_ascii_hexdigit, is_ascii_alphanumeric}
 use Rattle.std.specs.List.{prefix_len}
-use Rattle.std.specs.Str.{bytes_eq}
+use Rattle.std.specs.Str.{bytes_eq, byte}
 use Rattle.std.specs.Str.Parse.{digits_value}
-use Rattle.cm_text.specs.Bytes.{semicolon}
+use Rattle.std.specs.Int.{is_in_range}
 use Rattle.cm_text.specs.declared.references.Chars.{Chars}
-use Rattle.cm_text.specs.Characters.{within}
 use Rattle.cm_text.specs.NamedReferences.{names}
 
 -- what follows a word, if the text starts with it
@@ -24,7 +23,7 @@ begins_with c (b ∷ bs) = b == c
 -- what comes before a semicolon: the bytes at the front that pass the test
 abbrev pub before_semicolon : (ℕ → Bool) → List ℕ → Option (List ℕ)
 before_semicolon passes text =
-    if begins_with semicolon (drop (prefix_len passes text) text) then Some (take (prefix_len passes text) text) else None
+    if begins_with (byte ";") (drop (prefix_len passes text) text) then Some (take (prefix_len passes text) text) else None
 
 -- what comes between this front and a semicolon
 abbrev pub between : List ℕ → (ℕ → Bool) → List ℕ → Option (List ℕ)
@@ -33,14 +32,14 @@ between front passes text = elim (after_word front text) [ None ↦ None | Some 
 -- The character with a number. "Invalid Unicode code points will be replaced by the REPLACEMENT CHARACTER (U+FFFD). For
 -- security reasons, the code point U+0000 will also be replaced by U+FFFD."
 abbrev pub numbered_character : ℕ → ℕ
-numbered_character n = if n == 0 || within 0xD800 0xDFFF n || nat_lt 0x10FFFF n then 0xFFFD else n
+numbered_character n = if n == 0 || is_in_range 0xD800 0xDFFF n || nat_lt 0x10FFFF n then 0xFFFD else n
 
 -- The character of a number in a radix that has from one digit to the given number of them, and how many bytes are
 -- read: the digits, and the given number around them.
 abbrev pub numbered : (radix most round : ℕ) → Option (List ℕ) → Option (List ℕ × ℕ)
 numbered radix most round None = None
 numbered radix most round (Some digits) =
-    if within 1 most (length digits) then Some (numbered_character (digits_value radix digits) ∷ [], round + length digits) else None
+    if is_in_range 1 most (length digits) then Some (numbered_character (digits_value radix digits) ∷ [], round + length digits) else None
 
 -- "Decimal numeric character references consist of &# + a string of 1-7 arabic digits + ;."
 abbrev pub decimal_reference : List ℕ → Option (List ℕ × ℕ)

@@ -1,6 +1,6 @@
 -- Backslash escapes (CommonMark 0.31.2, 2.4 Backslash escapes), and texts in which escapes and references are resolved.
 use Rattle.std.specs.Prelude.{ℕ, zero, suc, ◌-◌, ◌==◌, ◌&&◌, if◌then◌else◌, List, [], ◌∷◌, ◌++◌, Option, Some, None, encode_utf8_all}
-use Rattle.cm_text.specs.Bytes.{backslash}
+use Rattle.std.specs.Str.{byte}
 use Rattle.cm_text.specs.Characters.{is_ascii_punct}
 use Rattle.cm_text.specs.References.{first_of_all, reference}
 
@@ -9,7 +9,7 @@ use Rattle.cm_text.specs.References.{first_of_all, reference}
 abbrev pub escape : List ℕ → Option (List ℕ × ℕ)
 escape [] = None
 escape (b ∷ []) = None
-escape (b ∷ c ∷ rest) = if b == backslash && is_ascii_punct c then Some (c ∷ [], 2) else None
+escape (b ∷ c ∷ rest) = if b == byte "\\" && is_ascii_punct c then Some (c ∷ [], 2) else None
 
 -- the escape or the reference at the start of a text
 unfoldable pub special : List ℕ → Option (List ℕ × ℕ)

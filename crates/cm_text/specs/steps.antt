@@ -1,6 +1,5 @@
 pub mod FeedSteps
 pub mod FirstLine
-pub mod LabelNumbers
 pub mod LabelSteps
 pub mod NameTable
 pub mod TextAhead

@@ -10,14 +10,14 @@ use crate::rules::Rules;
 ///
 /// The address is a destination whose backslashes and references are resolved, as a tree has it.
 pub fn is_followed(rules: Rules, address: &str) -> bool
-    ensures { result ≡ is_followed rules address.now }
+    ensures followed { result ≡ is_followed rules address.now }
 {
     rules.any_address() || is_web_address(address.as_bytes())
 }
 
 /// Whether an address has no scheme, or one of the web's.
 fn is_web_address(address: &[u8]) -> bool
-    ensures { result ≡ is_web_address address.now }
+    ensures web { result ≡ is_web_address address.now }
 {
     match find_scheme_end(address) {
         Some(at) => address[at] != b':' || is_web_scheme(&address[..at]),
@@ -27,7 +27,7 @@ fn is_web_address(address: &[u8]) -> bool
 
 /// Where a scheme ends, or where the rest starts if there is none.
 fn find_scheme_end(address: &[u8]) -> Option<usize>
-    ensures { result ≡ position (λ b. b == 58 || begins_a_part b) address.now }
+    ensures end { result ≡ position (λ b. b == 58 || begins_a_part b) address.now }
 {
     address.iter().position(|b| *b == b':' || begins_a_part(*b))
 }
@@ -41,7 +41,7 @@ fn begins_a_part(b: u8) -> bool
 
 /// Whether a scheme is one of the web's.
 fn is_web_scheme(scheme: &[u8]) -> bool
-    ensures { result ≡ is_web_scheme scheme.now }
+    ensures web { result ≡ is_web_scheme scheme.now }
 {
     scheme.eq_ignore_ascii_case(b"http")
         || scheme.eq_ignore_ascii_case(b"https")

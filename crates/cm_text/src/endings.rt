@@ -31,7 +31,7 @@ impl ByteKind for LineEnding {
 pub(crate) fn line_len(text: &str, known: usize) -> usize
     requires within { known ≤ length text.now }
     requires plain { is_line (take known text.now) ≡ true }
-    ensures { IsFirstLine result text.now }
+    ensures line { IsFirstLine result text.now }
 {
     next_far_of::<LineEnding>(text.as_bytes(), known)
 }
@@ -39,7 +39,7 @@ pub(crate) fn line_len(text: &str, known: usize) -> usize
 /// Whether a nonempty text ends with a line feed or a carriage return.
 pub(crate) fn ends_a_line(text: &str) -> bool
     requires { 0 < length text.now }
-    ensures { result ≡ ends_a_line text.now }
+    ensures ends { result ≡ ends_a_line text.now }
 {
     LineEnding::contains(text.as_bytes()[text.len() - 1])
 }

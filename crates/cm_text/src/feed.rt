@@ -43,11 +43,11 @@ impl Model for LineFeed {
     ghost use Rattle.std.specs.Prelude.{◌≡◌, ◌≤◌, map, []};
     ghost use Rattle.cm_text.specs.Lines.{seen_line};
     ghost use Rattle.cm_text.specs.Feed.{Feed, count};
-    ghost use Rattle.cm_text.specs.steps.FeedSteps.{behind_ready};
+    ghost use Rattle.cm_text.specs.steps.FeedSteps.{after_ready};
 
     ghost Value = { Feed };
 
-    ghost view = { λ f. behind_ready (map seen_line f.ready.items) f.fault f.buffer };
+    ghost view = { λ f. after_ready (map seen_line f.ready.items) f.fault f.buffer };
 
     ghost invariant = { λ f. (f.buffer.cut.ended ≡ []) × (count f.buffer ≤ f.buffer.limit)
         × (f.buffer.limit ≡ f.limits.bytes) };

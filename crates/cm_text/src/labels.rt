@@ -3,8 +3,8 @@ ghost use Rattle.std.specs.Prelude.{◌≡◌, ◌++◌, true, false, None, char
 ghost use Rattle.std.specs.Prelude.{IfOk, IfSome, OnOk};
 ghost use Rattle.std.specs.List.{list_all};
 ghost use Rattle.cm_text.specs.Labels.{case_fold, fold_label, is_gap, settle_gaps};
-ghost use Rattle.cm_text.specs.steps.LabelNumbers.{number_of, number_step};
-ghost use Rattle.cm_text.specs.steps.LabelSteps.{is_plain_byte, is_kept, is_own_fold, is_bare};
+ghost use Rattle.cm_text.specs.LabelNumbers.{number_of, number_step};
+ghost use Rattle.cm_text.specs.PlainLabels.{is_plain_byte, is_kept, is_own_fold, is_bare};
 ghost use Rattle.cm_text.specs.steps.LabelSteps.{is_settled, put_after};
 
 use crate::device::NoMemory;
@@ -25,7 +25,7 @@ use ucd_case::full_folding;
 #[inline(never)]
 #[tactic(auto, unfolding(crate::specs::Labels::fold_label))]
 pub fn fold_label(alloc: Global, label: &str) -> Result<String, NoMemory>
-    ensures { IfOk result (λ folded. string_bytes folded ≡ fold_label label.now) }
+    ensures folded { IfOk result (λ folded. string_bytes folded ≡ fold_label label.now) }
 {
     let folded = case_fold(alloc, label)?;
     if is_settled(folded.as_bytes()) {
@@ -45,9 +45,9 @@ fn number_step(number: u64, b: u8) -> u64
 }
 
 /// The number of a label, by which a table finds it. It is that of the label as it is, so fold it first.
-#[tactic(auto, unfolding(crate::specs::steps::LabelNumbers::number_of))]
+#[tactic(auto, unfolding(crate::specs::LabelNumbers::number_of))]
 pub fn label_number(label: &str) -> u64
-    ensures { result ≡ number_of label.now }
+    ensures number { result ≡ number_of label.now }
 {
     let mut number = 0;
     for b in label.as_bytes() {
@@ -59,7 +59,7 @@ pub fn label_number(label: &str) -> u64
 /// The number of a label that is its own folded form, as most labels are: characters that case folding keeps,
 /// with single spaces between them. None for any other label, and for one with a bracket, a backslash or an
 /// ASCII control character.
-#[tactic(auto, unfolding(crate::specs::steps::LabelNumbers::number_of))]
+#[tactic(auto, unfolding(crate::specs::LabelNumbers::number_of))]
 pub fn plain_label_number(label: &str) -> Option<u64>
     ensures number { IfSome result (λ number. number ≡ number_of label.now) }
     ensures folded { IfSome result (λ _. label.now ≡ fold_label label.now) }
@@ -67,22 +67,22 @@ pub fn plain_label_number(label: &str) -> Option<u64>
     ensures none { result ≡ None → is_own_fold label.now ≡ false }
 {
     let mut number = 0;
-    let mut behind_space = true;
+    let mut beyond_space = true;
     let mut ascii = true;
     for b in label.as_bytes() {
         if is_plain_byte(*b) {
-            behind_space = false;
-        } else if *b == b' ' && !behind_space {
-            behind_space = true;
+            beyond_space = false;
+        } else if *b == b' ' && !beyond_space {
+            beyond_space = true;
         } else if *b >= 128 {
-            behind_space = false;
+            beyond_space = false;
             ascii = false;
         } else {
             return None;
         }
         number = number_step(number, *b);
     }
-    if behind_space || !ascii && !keeps_case(label) {
+    if beyond_space || !ascii && !keeps_case(label) {
         return None;
     }
     Some(number)
@@ -91,7 +91,7 @@ pub fn plain_label_number(label: &str) -> Option<u64>
 /// Whether case folding keeps each character of a text.
 #[inline(never)]
 fn keeps_case(text: &str) -> bool
-    ensures { result ≡ list_all is_kept (chars text.now) }
+    ensures kept { result ≡ list_all is_kept (chars text.now) }
 {
     text.chars().all(is_kept)
 }
@@ -125,7 +125,7 @@ fn is_plain_byte(b: u8) -> bool
 /// A text with its case folded in full. ASCII is folded without the table.
 #[tactic(auto, unfolding(crate::specs::Labels::case_fold))]
 fn case_fold(alloc: Global, text: &str) -> Result<String, AllocError>
-    ensures { IfOk result (λ folded. string_bytes folded ≡ case_fold text.now) }
+    ensures folded { IfOk result (λ folded. string_bytes folded ≡ case_fold text.now) }
 {
     if text.is_ascii() {
         return text.to_ascii_lowercase(alloc);
@@ -135,25 +135,25 @@ fn case_fold(alloc: Global, text: &str) -> Result<String, AllocError>
 
 /// Whether a text that isn't empty has no gaps but single spaces inside.
 fn is_settled(text: &[u8]) -> bool
-    ensures { result ≡ is_settled true text.now }
+    ensures settled { result ≡ is_settled true text.now }
 {
-    let mut behind_gap = true;
+    let mut beyond_gap = true;
     for b in text {
         if *b > b' ' {
-            behind_gap = false;
+            beyond_gap = false;
             continue;
         }
         let gap = is_gap(*b as char);
-        if gap && (behind_gap || *b != b' ') {
+        if gap && (beyond_gap || *b != b' ') {
             return false;
         }
-        behind_gap = gap;
+        beyond_gap = gap;
     }
-    !behind_gap
+    !beyond_gap
 }
 
 fn settle_gaps(alloc: Global, text: &str) -> Result<String, AllocError>
-    ensures { IfOk result (λ settled. string_bytes settled ≡ settle_gaps text.now) }
+    ensures settled { IfOk result (λ settled. string_bytes settled ≡ settle_gaps text.now) }
 {
     let mut settled = String::with_capacity(alloc, text.len())?;
     let mut after_gap = false;

@@ -66,7 +66,7 @@ const PAIR: usize = 122;
 
 /// The characters of a reference with this name, if it is one of the names.
 pub(crate) fn look_up(name: &[u8]) -> Option<Chars>
-    ensures { option_map chars_of result ≡ entry names name.now }
+    ensures found { option_map chars_of result ≡ entry names name.now }
 {
     if let Some(first) = common(name) {
         return Some(Chars {
@@ -80,7 +80,7 @@ pub(crate) fn look_up(name: &[u8]) -> Option<Chars>
 /// The character of a name that is met often. These names are compared first, which is faster than a search.
 #[inline(always)]
 fn common(name: &[u8]) -> Option<char>
-    ensures { IfSome result (λ character. entry names name.now ≡ Some (character ∷ [])) }
+    ensures found { IfSome result (λ character. entry names name.now ≡ Some (character ∷ [])) }
 {
     match name {
         b"amp" => Some('&'),

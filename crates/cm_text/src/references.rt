@@ -55,7 +55,7 @@ pub fn reference_at(text: &str, place: usize) -> Option<(Chars, usize)>
 /// The reference at the start of a text, and the number of its bytes.
 #[inline(always)]
 pub(crate) fn reference(text: &[u8]) -> Option<(Chars, usize)>
-    ensures { read_of result ≡ reference text.now }
+    ensures read { read_of result ≡ reference text.now }
 {
     if !begins_with(text, b'&') {
         return None;
@@ -65,7 +65,7 @@ pub(crate) fn reference(text: &[u8]) -> Option<(Chars, usize)>
 
 #[inline(always)]
 fn after_ampersand(text: &[u8]) -> Option<(Chars, usize)>
-    ensures { read_of result ≡ reference (38 ∷ text.now) }
+    ensures read { read_of result ≡ reference (38 ∷ text.now) }
 {
     if !begins_with(text, b'#') {
         return named(text);
@@ -74,7 +74,7 @@ fn after_ampersand(text: &[u8]) -> Option<(Chars, usize)>
 }
 
 fn after_number_sign(text: &[u8]) -> Option<(Chars, usize)>
-    ensures { read_of result ≡ reference (38 ∷ 35 ∷ text.now) }
+    ensures read { read_of result ≡ reference (38 ∷ 35 ∷ text.now) }
 {
     if begins_with(text, b'x') || begins_with(text, b'X') {
         return hexadecimal(&text[1..]);
@@ -83,27 +83,27 @@ fn after_number_sign(text: &[u8]) -> Option<(Chars, usize)>
 }
 
 fn begins_with(text: &[u8], b: u8) -> bool
-    ensures { result ≡ begins_with b text.now }
+    ensures begins { result ≡ begins_with b text.now }
 {
     text.first() == Some(&b)
 }
 
 fn decimal(text: &[u8]) -> Option<(Chars, usize)>
-    ensures { read_of result ≡ numbered 10 7 3 (before_semicolon is_ascii_digit text.now) }
+    ensures read { read_of result ≡ numbered 10 7 3 (before_semicolon is_ascii_digit text.now) }
 {
     let digits = before_semicolon(text, count_decimal(text))?;
     numbered(digits, 10, 7, 3)
 }
 
 fn hexadecimal(text: &[u8]) -> Option<(Chars, usize)>
-    ensures { read_of result ≡ numbered 16 6 4 (before_semicolon is_ascii_hexdigit text.now) }
+    ensures read { read_of result ≡ numbered 16 6 4 (before_semicolon is_ascii_hexdigit text.now) }
 {
     let digits = before_semicolon(text, count_hexadecimal(text))?;
     numbered(digits, 16, 6, 4)
 }
 
 fn named(text: &[u8]) -> Option<(Chars, usize)>
-    ensures { read_of result ≡ named (before_semicolon is_ascii_alphanumeric text.now) }
+    ensures read { read_of result ≡ named (before_semicolon is_ascii_alphanumeric text.now) }
 {
     let name = before_semicolon(text, count_alphanumeric(text))?;
     let chars = look_up(name)?;
@@ -111,19 +111,19 @@ fn named(text: &[u8]) -> Option<(Chars, usize)>
 }
 
 fn count_decimal(text: &[u8]) -> usize
-    ensures { result ≡ prefix_len is_ascii_digit text.now }
+    ensures count { result ≡ prefix_len is_ascii_digit text.now }
 {
     text.iter().take_while(|b| b.is_ascii_digit()).count()
 }
 
 fn count_hexadecimal(text: &[u8]) -> usize
-    ensures { result ≡ prefix_len is_ascii_hexdigit text.now }
+    ensures count { result ≡ prefix_len is_ascii_hexdigit text.now }
 {
     text.iter().take_while(|b| b.is_ascii_hexdigit()).count()
 }
 
 fn count_alphanumeric(text: &[u8]) -> usize
-    ensures { result ≡ prefix_len is_ascii_alphanumeric text.now }
+    ensures count { result ≡ prefix_len is_ascii_alphanumeric text.now }
 {
     text.iter()
         .take_while(|b| b.is_ascii_alphanumeric())
@@ -133,7 +133,7 @@ fn count_alphanumeric(text: &[u8]) -> usize
 /// What is before a semicolon, if one is at this position.
 fn before_semicolon(text: &[u8], len: usize) -> Option<&[u8]>
     requires { len ≤ length text.now }
-    ensures { option_copied result
+    ensures read { option_copied result
         ≡ (if begins_with 59 (drop len text.now) then Some (take len text.now) else None) }
 {
     if !begins_with(&text[len..], b';') {
@@ -148,7 +148,7 @@ fn numbered(digits: &[u8], radix: u32, most: usize, round: usize) -> Option<(Cha
     requires radix { (2 ≤ radix) × (radix ≤ 16) }
     requires most { (most ≤ 7) × (round ≤ 4) }
     requires digits { AllDigits radix digits.now }
-    ensures { read_of result ≡ numbered radix most round (Some digits.now) }
+    ensures read { read_of result ≡ numbered radix most round (Some digits.now) }
 {
     if digits.is_empty() || digits.len() > most {
         return None;
@@ -165,7 +165,7 @@ fn number(digits: &[u8], radix: u32) -> u32
     requires radix { (2 ≤ radix) × (radix ≤ 16) }
     requires digits { AllDigits radix digits.now }
     requires fits { digits_value radix digits.now < 2 ^ 32 }
-    ensures { result ≡ digits_value radix digits.now }
+    ensures value { result ≡ digits_value radix digits.now }
 {
     let mut number = 0;
     for b in digits {

@@ -8,9 +8,8 @@
 ghost use Rattle.std.specs.Prelude.{◌≡◌, ◌+◌, ◌<◌, ◌≤◌, ◌==◌, ◌||◌};
 ghost use Rattle.std.specs.Prelude.{ℕ, Bool, false, not, length, get_or, map, None, IfSome};
 ghost use Rattle.std.specs.List.{position_or_len, prefix_len};
-ghost use Rattle.std.specs.Str.{IsCharBoundary};
+ghost use Rattle.std.specs.Str.{IsCharBoundary, byte};
 ghost use Rattle.std.specs.Simd.Lanes.{chunk, mask_l};
-ghost use Rattle.cm_text.specs.Bytes.{quotation_mark, greater_than};
 ghost use Rattle.cm_text.specs.Search.{next_place, is_markup, is_marked, is_no_space};
 
 use std::simd::prelude::*;
@@ -48,7 +47,7 @@ fn run_of_16<K: ByteKind>(bytes: &[u8], at: usize) -> Option<usize>
 #[inline(always)]
 fn next_slowly<K: ByteKind>(bytes: &[u8], from: usize) -> usize
     requires { from ≤ length bytes.now }
-    ensures { result ≡ next_place K.passes bytes.now from }
+    ensures next { result ≡ next_place K.passes bytes.now from }
 {
     for at in from..bytes.len() {
         if K::contains(bytes[at]) {
@@ -61,7 +60,7 @@ fn next_slowly<K: ByteKind>(bytes: &[u8], from: usize) -> usize
 /// The least place, at or after `from`, of a byte of the kind, or the length where there is none.
 #[inline(always)]
 pub fn next_of<K: ByteKind>(bytes: &[u8], from: usize) -> usize
-    ensures { result ≡ next_place K.passes bytes.now from }
+    ensures next { result ≡ next_place K.passes bytes.now from }
 {
     if from >= bytes.len() {
         return bytes.len();
@@ -108,7 +107,7 @@ fn pass_by_32<K: ByteKind>(bytes: &[u8], from: usize) -> usize
 #[inline(always)]
 pub(crate) fn next_far_of<K: ByteKind>(bytes: &[u8], from: usize) -> usize
     requires { from ≤ length bytes.now }
-    ensures { result ≡ next_place K.passes bytes.now from }
+    ensures next { result ≡ next_place K.passes bytes.now from }
 {
     let at = pass_by_32::<K>(bytes, from);
     next_of::<K>(bytes, at)
@@ -178,7 +177,7 @@ pub fn leading_spaces(text: &str) -> usize
 /// escapes, or that ends a line; the length if there is none. The bytes are those of `next_markup`, `"` and
 /// `>`.
 pub fn next_marked(bytes: &[u8], from: usize) -> usize
-    ensures { result ≡ next_place is_marked bytes.now from }
+    ensures next { result ≡ next_place is_marked bytes.now from }
 {
     next_of::<Marked>(bytes, from)
 }
@@ -186,7 +185,7 @@ pub fn next_marked(bytes: &[u8], from: usize) -> usize
 /// Whether HTML escapes a byte that isn't markup.
 #[inline(always)]
 fn is_only_escaped(b: u8) -> bool
-    ensures { result ≡ (b == quotation_mark || b == greater_than) }
+    ensures { result ≡ (b == byte "\"" || b == byte ">") }
 {
     b == b'"' || b == b'>'
 }
@@ -195,7 +194,7 @@ fn is_only_escaped(b: u8) -> bool
 /// line; the length if there is none. The bytes are LF, CR, `!`, `&`, `*`, `<`, `[`, `\`, `]`, `_`, a
 /// backtick and `~`.
 pub fn next_markup(bytes: &[u8], from: usize) -> usize
-    ensures { result ≡ next_place is_markup bytes.now from }
+    ensures next { result ≡ next_place is_markup bytes.now from }
 {
     let mut at = next_marked(bytes, from);
     while at < bytes.len() && is_only_escaped(bytes[at]) {

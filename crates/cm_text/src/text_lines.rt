@@ -118,7 +118,7 @@ fn is_text_line(bytes: &[u8], first: usize, end: usize) -> bool
 pub(crate) fn text_ahead(text: &str, line: usize) -> TextAhead
     requires first { IsFirstLine line text.now }
     requires ended { line < length text.now }
-    ensures { IsAhead result text.now }
+    ensures ahead { IsAhead result text.now }
 {
     let bytes = text.as_bytes();
     let spaces = leading_spaces(text);

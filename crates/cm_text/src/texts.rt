@@ -13,15 +13,15 @@ use std::alloc::Global;
 ///
 /// `NoMemory` if a request for memory was refused.
 pub fn text_of(alloc: Global, whole: &str) -> Result<String, NoMemory>
-    ensures { IfOk result (λ text. string_bytes text ≡ text_of whole.now) }
+    ensures text { IfOk result (λ text. string_bytes text ≡ text_of whole.now) }
 {
     let mut text = String::with_capacity(alloc, whole.len())?;
     let mut rest = whole;
     while let Some(at) = memchr(0, rest.as_bytes()) {
-        let (before, behind) = cut_at(rest, at);
+        let (before, beyond) = cut_at(rest, at);
         text.push_str(before)?;
         text.push_str("\u{FFFD}")?;
-        rest = behind;
+        rest = beyond;
     }
     text.push_str(rest)?;
     Ok(text)

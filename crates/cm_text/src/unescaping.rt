@@ -42,7 +42,7 @@ impl ByteKind for Unescaped {
 ///
 /// `NoMemory` if a request for memory was refused.
 pub fn unescape(alloc: Global, text: &str) -> Result<String, NoMemory>
-    ensures { IfOk result (λ unescaped. string_bytes unescaped ≡ unescape text.now) }
+    ensures unescaped { IfOk result (λ unescaped. string_bytes unescaped ≡ unescape text.now) }
 {
     // No escape or reference gives more bytes than it takes.
     let mut unescaped = String::with_capacity(alloc, text.len())?;
@@ -63,7 +63,7 @@ pub fn unescape(alloc: Global, text: &str) -> Result<String, NoMemory>
 /// `NoMemory` if a request for memory was refused.
 #[inline(always)]
 pub fn unescape_or_lend(alloc: Global, text: &str) -> Result<CowStr<'_, Global>, NoMemory>
-    ensures { IfOk result (λ unescaped. cow_str_bytes unescaped ≡ unescape text.now) }
+    ensures unescaped { IfOk result (λ unescaped. cow_str_bytes unescaped ≡ unescape text.now) }
 {
     match first_special(text.as_bytes()) {
         Some(_) => Ok(CowStr::Owned(unescape(alloc, text)?)),
@@ -75,7 +75,7 @@ pub fn unescape_or_lend(alloc: Global, text: &str) -> Result<CowStr<'_, Global>,
 /// `memchr2` takes more.
 #[inline(always)]
 fn first_special(text: &[u8]) -> Option<usize>
-    ensures { IsFirstByte (is_byte2 92 38) text.now result }
+    ensures found { IsFirstByte (is_byte2 92 38) text.now result }
 {
     let at = next_of::<Unescaped>(text, 0);
     (at < text.len()).then_some(at)
@@ -101,7 +101,7 @@ fn push_special(out: &mut String, text: &str) -> Result<usize, AllocError>
 
 /// The escape or the reference at the start of a text, and the number of its bytes.
 fn special(text: &[u8]) -> Option<(Chars, usize)>
-    ensures { read_of result ≡ special text.now }
+    ensures read { read_of result ≡ special text.now }
 {
     if let Some(first) = escaped(text) {
         let chars = Chars {
@@ -115,7 +115,7 @@ fn special(text: &[u8]) -> Option<(Chars, usize)>
 
 /// The character after a backslash.
 fn escaped(text: &[u8]) -> Option<char>
-    ensures { option_map (λ c. (c ∷ [], 2)) result ≡ escape text.now }
+    ensures read { option_map (λ c. (c ∷ [], 2)) result ≡ escape text.now }
 {
     if text.len() > 1 && text[0] == b'\\' && is_ascii_punct(text[1] as char) {
         return Some(text[1] as char);

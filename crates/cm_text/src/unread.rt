@@ -87,8 +87,8 @@ impl Unread {
             return;
         }
         let is_return = rest.as_bytes()[self.line] == b'\r';
-        let behind = self.passed + self.line + 1;
-        let (passed, after_return) = past_line_feed(&self.text, behind, is_return);
+        let beyond = self.passed + self.line + 1;
+        let (passed, after_return) = past_line_feed(&self.text, beyond, is_return);
         self.text_ahead.count = 0;
         self.line = line_len(&self.text[passed..], 0);
         self.passed = passed;

@@ -19,7 +19,7 @@ pub struct WriteFailed {
 /// `WriteFailed` if a write failed: then exactly the first `written` bytes were written.
 pub fn write_all<W: Sink>(sink: &mut W, bytes: &[u8]) -> Result<(), WriteFailed>
     requires { (W.seen sink.old).failed < 2 ^ 64 - 1 }
-    ensures { MatchResult result
+    ensures wrote { MatchResult result
         (λ _. Wrote (W.seen sink.old) (W.seen sink.new) bytes.now 0)
         (λ e. WroteFront (W.seen sink.old) (W.seen sink.new) bytes.now e.written) }
 {

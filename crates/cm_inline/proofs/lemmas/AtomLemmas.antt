@@ -8,11 +8,12 @@ use Rattle.cm_inline.proofs.lemmas.Words.{begins-at, not-same, Marker, Tilde, De
 use Rattle.std.specs.Prelude.{nat_le}
 use Rattle.cm_text.specs.References.{reference, reference_at}
 use Rattle.cm_tree.specs.declared.tree.Inline.TheVariants as inline
-use Rattle.cm_scan.specs.spans.Angles.{Angled, Addressed, Tagged, tagged, at_angle}
-use Rattle.cm_scan.specs.spans.CodeSpans.{span_content, code_span}
+use Rattle.cm_scan.specs.spans.Angles.{Angled, Addressed, Tagged, at_angle}
+use Rattle.cm_scan.specs.spans.CodeSpans.{code_span, span_content}
 use Rattle.cm_scan.specs.inlines.Delimiters as delimiters
 use Rattle.cm_scan.specs.inlines.Pairing as items
 use Rattle.cm_scan.specs.inlines.Atoms.{is_markup, AtomRead, Plain, Whole, Delimiter, OpenBracket, read, or_byte, byte_atom, backtick_atom, angle_atom, backslash_atom, reference_atom, break_atom, run_between, run_atom, tilde_atom, bang_atom}
+use Rattle.cm_scan.specs.steps.SpanSteps.{tagged}
 use Rattle.cm_scan.proofs.lemmas.texts.WordsGoOn.{false-true}
 use Rattle.cm_scan.proofs.lemmas.inlines.LeftByEachStep.{atom-left}
 use Rattle.cm_inline.proofs.lemmas.BottomLemmas.{kind-small, kind-untilded}
@@ -73,13 +74,13 @@ module _ (rules : Rules) (source : List ℕ) (at : ℕ) where
   one-byte : (b : ℕ) → Stands source at b → slice_range source at (at + 1) ≡ b ∷ []
   one-byte b s = let one : at + 1 - at ≡ 1 = omega arith in ap (λ n. take n (drop at source)) one ∙ ap (take 1) (front source at b s)
 
-  behind-byte : (b : ℕ) → IsUtf8 source → Stands source at b → b < 128 → IsCharBoundary source (at + 1)
-  behind-byte b utf8 s ascii = IsCharBoundary-after_ascii source at utf8 s.within (omega (arith, s.byte, ascii))
+  beyond-byte : (b : ℕ) → IsUtf8 source → Stands source at b → b < 128 → IsCharBoundary source (at + 1)
+  beyond-byte b utf8 s ascii = IsCharBoundary-after_ascii source at utf8 s.within (omega (arith, s.byte, ascii))
 
   byte-is : (b : ℕ) (a : AtomRead) → IsUtf8 source → Stands source at b → b < 128 → atom_in rules source at ≡ a → a.rest ≡ drop (at + 1) source → item_for a.atom a.rest ≡ Some (items.Characters (b ∷ []))
       → IsAtom rules source at (items.Characters (slice_range source at (at + 1))) (at + 1)
   byte-is b a utf8 s ascii same rest item =
-      is-atom (items.Characters (slice_range source at (at + 1))) (at + 1) a s.within same rest (item ∙ sym (ap (λ t. Some (items.Characters t)) (one-byte b s))) (behind-byte b utf8 s ascii) tt
+      is-atom (items.Characters (slice_range source at (at + 1))) (at + 1) a s.within same rest (item ∙ sym (ap (λ t. Some (items.Characters t)) (one-byte b s))) (beyond-byte b utf8 s ascii) tt
 
   -- as text, or as a character that HTML escapes
   text-byte : (b : ℕ) → Stands source at b → stays_text true b ≡ true → IsAtom rules source at (items.Characters (slice_range source at (at + 1))) (at + 1) → Begins rules source at read.Text (at + 1)
@@ -90,7 +91,7 @@ module _ (rules : Rules) (source : List ℕ) (at : ℕ) where
 
   -- the byte after it
   next-stands : (b c : ℕ) → IsUtf8 source → Stands source at b → b < 128 → begins_with c (drop (at + 1) source) ≡ true → Stands source (at + 1) c
-  next-stands b c utf8 s ascii next = first_of (search (begins-at, behind-byte), grind (arith, nat_tests, begins-at, behind-byte))
+  next-stands b c utf8 s ascii next = first_of (search (begins-at, beyond-byte), grind (arith, nat_tests, begins-at, beyond-byte))
 
   -- a code span, or a backtick string as text
 
@@ -175,16 +176,16 @@ module _ (rules : Rules) (source : List ℕ) (at : ℕ) where
   pub escape-is : (c : ℕ) → IsUtf8 source → Stands source at 92 → at + 1 < length source → get_or source (at + 1) 0 ≡ c → c < 128 → is_ascii_punct c ≡ true → Begins rules source at read.Escape (at + 2)
   unfolding backslash_atom after_word
   escape-is c utf8 s within byte ascii punct =
-      let boundary = behind-byte 92 utf8 s (omega arith) in
+      let boundary = beyond-byte 92 utf8 s (omega arith) in
       let next : Stands source (at + 1) c = record { short = s.short; within = within; boundary = boundary; byte = byte } in
       let end : at + 1 + 1 ≡ at + 2 = omega arith in
-      let behind : IsCharBoundary source (at + 2) = subst (IsCharBoundary source) end (IsCharBoundary-after_ascii source (at + 1) utf8 within (omega (arith, byte, ascii))) in
+      let beyond : IsCharBoundary source (at + 2) = subst (IsCharBoundary source) end (IsCharBoundary-after_ascii source (at + 1) utf8 within (omega (arith, byte, ascii))) in
       let one : at + 2 - (at + 1) ≡ 1 = omega arith in
       let text : slice_range source (at + 1) (at + 2) ≡ c ∷ [] = ap (λ n. take n (drop (at + 1) source)) one ∙ ap (take 1) (front source (at + 1) c next) in
       record {
         is = is-atom (items.Characters (slice_range source (at + 1) (at + 2))) (at + 2) (record { atom = Plain (c ∷ []); rest = drop (at + 1 + 1) source }) s.within
             (slash-in (c ∷ drop (at + 1 + 1) source) s (front source (at + 1) c next) ∙ escaped (c == 10) (no-feed c punct)) (ap (λ n. drop n source) end)
-            (sym (ap (λ t. Some (items.Characters t)) text)) behind tt;
+            (sym (ap (λ t. Some (items.Characters t)) text)) beyond tt;
         there = (c, refl, boundary, text, sym byte, no-feed c punct);
       }
     where
@@ -342,11 +343,11 @@ module _ (rules : Rules) (source : List ℕ) (at : ℕ) where
   image-is utf8 s next =
       let bracket = next-stands 33 91 utf8 s (omega arith) next in
       let end : at + 1 + 1 ≡ at + 2 = omega arith in
-      let behind : IsCharBoundary source (at + 2) = subst (IsCharBoundary source) end (IsCharBoundary-after_ascii source (at + 1) utf8 bracket.within (omega (arith, bracket.byte))) in
+      let beyond : IsCharBoundary source (at + 2) = subst (IsCharBoundary source) end (IsCharBoundary-after_ascii source (at + 1) utf8 bracket.within (omega (arith, bracket.byte))) in
       let rest : drop (at + 1 + 1) source ≡ drop (at + 2) source = ap (λ n. drop n source) end in
       record {
         is = is-atom _ (at + 2) (record { atom = OpenBracket true; rest = drop (at + 1 + 1) source }) s.within (bang-in (91 ∷ drop (at + 1 + 1) source) s (front source (at + 1) 91 bracket)) rest
-            (ap (λ t. Some (items.Opener true t)) rest) behind tt;
+            (ap (λ t. Some (items.Opener true t)) rest) beyond tt;
         there = (refl, front source at 33 s ∙ ap (λ t. 33 ∷ t) (front source (at + 1) 91 bracket ∙ ap (λ t. 91 ∷ t) rest));
       }
 
@@ -361,7 +362,7 @@ module _ (rules : Rules) (source : List ℕ) (at : ℕ) where
 
   pub opener-is : IsUtf8 source → Stands source at 91 → Begins rules source at (read.Opener false) (at + 1)
   unfolding atom_at markup_atom
-  opener-is utf8 s = grind (arith, nat_tests, behind-byte, is-atom, here, front)
+  opener-is utf8 s = grind (arith, nat_tests, beyond-byte, is-atom, here, front)
 
   -- a run of a marker
 

@@ -2,7 +2,7 @@
 use Rattle.cm_inline.proofs.lemmas.Words.{◌≡◌, ℕ, suc, ◌+◌, ◌-◌, ◌<◌, true, List, [], ◌∷◌, ◌++◌, sym, ap, ◌∙◌, arith, append_assoc, list_all, and_parts, Emphasis}
 use Rattle.cm_inline.proofs.lemmas.Words.{rules}
 use Rattle.cm_inline.specs.declared.runs.Run as held
-use Rattle.cm_inline.specs.declared.runs.Pair as made
+use Rattle.cm_inline.specs.declared.pairing.Pair as made
 use Rattle.cm_inline.specs.steps.pairing.Events.{Event, Start, End, Built, ended, add_text, build_one, build, made_of}
 use Rattle.cm_inline.specs.steps.pairing.Parts.{Pair, PairedRun, starts, ends_between, run_events, events_of}
 use Rattle.cm_inline.specs.steps.Building.{opened, closed}

@@ -23,13 +23,13 @@ chained-none = record { before = λ place h. absurd (omega (arith, h)); opened =
 pub chained-push : (runs : List PairedRun) (pairs : List Pair) (run : Run) → AreChained runs pairs → AreChained (runs ++ fresh run ∷ []) pairs
 chained-push runs pairs run c = search (rules, ltb-true, ltb-false, get_or_push, get_or_past, length-append, get_or_append_left, nat_split)
 
--- and becomes a segment behind the others
+-- and becomes a segment after the others
 
-pub behind-append : (low : ℕ) (ss ts : List Segment) → number_after low (ss ++ ts) ≡ number_after (number_after low ss) ts
+pub beyond-append : (low : ℕ) (ss ts : List Segment) → number_after low (ss ++ ts) ≡ number_after (number_after low ss) ts
 unfolding number_after
-behind-append low [] ts = refl
-behind-append low (Waiting k run ∷ ss) ts = behind-append (k + 1) ss ts
-behind-append low (Made parts item high ∷ ss) ts = behind-append high ss ts
+beyond-append low [] ts = refl
+beyond-append low (Waiting k run ∷ ss) ts = beyond-append (k + 1) ss ts
+beyond-append low (Made parts item high ∷ ss) ts = beyond-append high ss ts
 
 pub segments-append : (low : ℕ) (runs : List PairedRun) (pairs : List Pair) (ss ts : List Segment) → AreSegments runs pairs low ss → AreSegments runs pairs (number_after low ss) ts → AreSegments runs pairs low (ss ++ ts)
 unfolding number_after
@@ -43,7 +43,7 @@ segments-push runs pairs run ss h g =
     (segments-more (λ k. k < length runs) 0 runs (runs ++ fresh run ∷ []) pairs ss (omega (arith, length-append runs (fresh run ∷ []))) (λ k p. get_or_append_left runs (fresh run ∷ []) no_paired_run k p) (segments-under (length runs) 0 runs pairs ss h g) g)
     (h, omega (arith, length-append runs (fresh run ∷ [])), get_or_push runs (fresh run) no_paired_run (length runs) refl, tt)
 
--- What a pass made of the segments behind the front becomes the content of a link or an image, as one segment.
+-- What a pass made of the segments after the front becomes the content of a link or an image, as one segment.
 
 rising-ended : (low : ℕ) (fs : List Event) (tag : Tag) → Rising low fs → Rising low (fs ++ End tag ∷ [])
 rising-ended low [] tag h = tt
@@ -53,11 +53,11 @@ rising-ended low (_ ∷ fs) tag h = rising-ended low fs tag h
 abbrev pub linked_parts : Tag → List Part → List Part
 linked_parts tag parts = (Known (Start tag ∷ []) ∷ parts) ++ Known (End tag ∷ []) ∷ []
 
-pub link-made : (old new : Runs) (front inside : List Segment) (tag : Tag) → AllPaired old new front inside → number_after 0 front ≤ length new.runs.items → IsAlone tag (events_of (runs_in new.runs.items) (pairs_in new.pairs.items) (all_parts inside))
-    → IsMade (runs_in new.runs.items) (pairs_in new.pairs.items) (number_after 0 front) (linked_parts tag (all_parts inside)) (Finished (made_of tag (emphasis_of (items_in inside)))) (length new.runs.items)
+pub link-made : (old new : Runs) (front inside : List Segment) (tag : Tag) → AllPaired old new front inside → number_after 0 front ≤ length new.list.runs → IsAlone tag (events_of (runs_in new.list.runs) (pairs_in new.pairs.items) (all_parts inside))
+    → IsMade (runs_in new.list.runs) (pairs_in new.pairs.items) (number_after 0 front) (linked_parts tag (all_parts inside)) (Finished (made_of tag (emphasis_of (items_in inside)))) (length new.list.runs)
 unfolding events_of
 link-made old new front inside tag p high alone =
-    let runs = runs_in new.runs.items in
+    let runs = runs_in new.list.runs in
     let pairs = pairs_in new.pairs.items in
     let parts = all_parts inside in
     let low = number_after 0 front in
@@ -66,7 +66,7 @@ link-made old new front inside tag p high alone =
       other = refl;
       marked = ((tt, tt), parts-append runs pairs parts (Known (End tag ∷ []) ∷ []) p.parts ((tt, tt), tt));
       rising = subst (λ fs. Rising low (Start tag ∷ fs)) (sym (events-append runs pairs parts (Known (End tag ∷ []) ∷ []))) (rising-ended low (events_of runs pairs parts) tag p.rising);
-      under = under-append (length new.runs.items) (length new.runs.items) parts (Known (End tag ∷ []) ∷ []) (omega arith) p.under tt;
+      under = under-append (length new.list.runs) (length new.list.runs) parts (Known (End tag ∷ []) ∷ []) (omega arith) p.under tt;
       high_is = high;
     }
 

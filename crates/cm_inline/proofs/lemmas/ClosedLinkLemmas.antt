@@ -19,8 +19,8 @@ use Rattle.cm_inline.specs.steps.Pairs.{AreLooks, Keeps}
 use Rattle.cm_inline.specs.steps.Reads.{Stands}
 use Rattle.cm_inline.specs.steps.Runs.{runs_in, pairs_in, pair_in}
 use Rattle.cm_inline.proofs.lemmas.BracketLemmas.{closes-opener, link_made, closed_or}
-use Rattle.cm_inline.proofs.lemmas.CallerLemmas.{behind-append, segments-append, linked_parts, link-made, made-linked}
-use Rattle.cm_inline.proofs.lemmas.KeptLemmas.{behind-after, segments-split}
+use Rattle.cm_inline.proofs.lemmas.CallerLemmas.{beyond-append, segments-append, linked_parts, link-made, made-linked}
+use Rattle.cm_inline.proofs.lemmas.KeptLemmas.{beyond-after, segments-split}
 use Rattle.cm_inline.proofs.lemmas.PassLemmas.{rising-lower}
 use Rattle.cm_inline.proofs.lemmas.JoinLemmas.{Later, laid-join, laid-later, parts-join, parts-later, parts-one}
 use Rattle.cm_inline.proofs.lemmas.KeepsLemmas.{keeps-link}
@@ -110,7 +110,7 @@ link-linked image dest title inner = grind (arith, nat_tests)
 link-closed : (image : Bool) (dest title : List ℕ) (inner : List Item) → is_opener (made image dest title inner) ≡ false
 link-closed image dest title inner = grind (arith, nat_tests)
 
--- A link or an image was made of the last bracket and of all that is behind it.
+-- A link or an image was made of the last bracket and of all that is after it.
 pub record IsLinked (source : List ℕ) (at end : ℕ) (old new : Reader) (b : Bracket) (target : PlacedTarget) : Type 0 where
   pub marks : new.marks.items ≡ set old.marks.items b.mark (mark_at (get_or old.marks.items b.mark (mark_at 0 0 kinds.Plain)).at (get_or old.marks.items b.mark (mark_at 0 0 kinds.Plain)).end (kinds.Start (length old.links.items)))
       ++ mark_at at end (kinds.End (length old.links.items)) ∷ []
@@ -119,14 +119,14 @@ pub record IsLinked (source : List ℕ) (at end : ℕ) (old new : Reader) (b : B
   pub lines : new.lines ≡ old.lines
   pub knows : Knows source new.ends
   pub passes : (front inside : List Segment) → WaitFrom b.waiting old.runs front inside → AllPaired old.runs new.runs front inside
-  pub runs : SameRuns old.runs.runs.items new.runs.runs.items
-  pub chained : AreChained (runs_in new.runs.runs.items) (pairs_in new.runs.pairs.items)
+  pub runs : SameRuns old.runs.list.runs new.runs.list.runs
+  pub chained : AreChained (runs_in new.runs.list.runs) (pairs_in new.runs.pairs.items)
 
 get-seam : {A : Type 0} (xs : List A) (y : A) (ys : List A) (d : A) → get_or (xs ++ y ∷ ys) (length xs) d ≡ y
 get-seam [] y ys d = refl
 get-seam (x ∷ xs) y ys d = get-seam xs y ys d
 
--- The segments before and behind the last open bracket, with what the pairing of runs asks of them.
+-- The segments before and after the last open bracket, with what the pairing of runs asks of them.
 module _ (source : List ℕ) (targets : Targets) (at : ℕ) (old : Reader) (b : Bracket) (bs : List Bracket) (segments : List Segment) (r : IsRead source targets at (view_of old) (b ∷ bs) segments) where
   abbrev pub front : List Segment
   front = r.open_are.front
@@ -149,7 +149,7 @@ module _ (source : List ℕ) (targets : Targets) (at : ℕ) (old : Reader) (b : 
   awaits = record {
     waiting = r.waiting ∙ ap numbers_in again ∙ numbers-append before inside;
     place = ap length numbers-before ∙ sym r.open_are.waiting;
-    segments = subst (AreSegments (runs_in old.runs.runs.items) (pairs_in old.runs.pairs.items) 0) again r.segments_are;
+    segments = subst (AreSegments (runs_in old.runs.list.runs) (pairs_in old.runs.pairs.items) 0) again r.segments_are;
     marked = (left-runs source targets at (view_of old) b bs segments r).1;
   }
 
@@ -195,13 +195,13 @@ module _ (source : List ℕ) (targets : Targets) (at end : ℕ) (old new : Reade
   item = made b.image dest title (items_in within)
 
   abbrev runs : List PairedRun
-  runs = runs_in new.runs.runs.items
+  runs = runs_in new.runs.list.runs
 
   abbrev pairs : List Pair
   pairs = pairs_in new.runs.pairs.items
 
   abbrev segment : Segment
-  segment = Made (linked_parts tag (all_parts within)) item (length new.runs.runs.items)
+  segment = Made (linked_parts tag (all_parts within)) item (length new.runs.list.runs)
 
   abbrev held : AreSegments (runs_in v.runs) (pairs_in v.pairs) 0 outside × AreSegments (runs_in v.runs) (pairs_in v.pairs) (number_after 0 outside) (opened source b level.high ∷ within)
   held = both source targets at v b bs segments r
@@ -209,27 +209,27 @@ module _ (source : List ℕ) (targets : Targets) (at end : ℕ) (old new : Reade
   abbrev p : AllPaired old.runs new.runs earlier within
   p = s.passes earlier within (awaits source targets at old b bs segments r)
 
-  later : Later v.runs new.runs.runs.items
+  later : Later v.runs new.runs.list.runs
   later number h = (omega (arith, s.runs.long, h), (s.runs.same number).0, (s.runs.same number).1)
 
   high-before : number_after 0 earlier ≡ level.high
   unfolding number_after
-  high-before = behind-append 0 outside (opened source b level.high ∷ [])
+  high-before = beyond-append 0 outside (opened source b level.high ∷ [])
 
-  high : number_after 0 earlier ≤ length new.runs.runs.items
+  high : number_after 0 earlier ≤ length new.runs.list.runs
   unfolding number_after
   high =
-      let whole = ap (number_after 0) (again source targets at old b bs segments r) ∙ behind-append 0 earlier within in
-      let after = behind-after level.high (runs_in v.runs) (pairs_in v.pairs) within held.1.1 in
+      let whole = ap (number_after 0) (again source targets at old b bs segments r) ∙ beyond-append 0 earlier within in
+      let after = beyond-after level.high (runs_in v.runs) (pairs_in v.pairs) within held.1.1 in
       omega (arith, r.high, whole, ap (λ k. number_after k within) high-before, high-before, after, s.runs.long)
 
   alone : IsAlone tag (events_of runs pairs (all_parts within))
   alone = search (rules, free-marks)
 
-  is-made : IsMade runs pairs (number_after 0 outside) (linked_parts tag (all_parts within)) item (length new.runs.runs.items)
+  is-made : IsMade runs pairs (number_after 0 outside) (linked_parts tag (all_parts within)) item (length new.runs.list.runs)
   is-made =
-      made-lower runs pairs (number_after 0 outside) (number_after 0 earlier) (linked_parts tag (all_parts within)) item (length new.runs.runs.items) (omega (arith, high-before, held.1.0.high_is))
-      (link-item runs pairs (number_after 0 earlier) (linked_parts tag (all_parts within)) (length new.runs.runs.items) n b.image dest title (items_in within) (link-made old.runs new.runs earlier within tag p high alone))
+      made-lower runs pairs (number_after 0 outside) (number_after 0 earlier) (linked_parts tag (all_parts within)) item (length new.runs.list.runs) (omega (arith, high-before, held.1.0.high_is))
+      (link-item runs pairs (number_after 0 earlier) (linked_parts tag (all_parts within)) (length new.runs.list.runs) n b.image dest title (items_in within) (link-made old.runs new.runs earlier within tag p high alone))
 
   segments-are : AreSegments runs pairs 0 (outside ++ segment ∷ [])
   segments-are =
@@ -249,7 +249,7 @@ module _ (source : List ℕ) (targets : Targets) (at end : ℕ) (old new : Reade
   marks-are = search (rules, get-seam, set-append_seam, append_assoc)
 
   abbrev now : MarkedLeaf
-  now = later_leaf leaf new.runs.runs.items (link ∷ []) new.links_end
+  now = later_leaf leaf new.runs.list.runs (link ∷ []) new.links_end
 
   known : get_or links n no_link ≡ link
   known = get-seam old.links.items link [] no_link
@@ -257,10 +257,10 @@ module _ (source : List ℕ) (targets : Targets) (at end : ℕ) (old new : Reade
   is-link : IsLinkIn source targets links n
   is-link = grind (arith, nat_tests, known, length-append)
 
-  late-laid : AreLaid v.lines source targets new.runs.runs.items links b.end at level.late
-  late-laid = laid-later v.lines source targets v.runs new.runs.runs.items v.links (link ∷ []) later b.end at level.late level.closed.laid
+  late-laid : AreLaid v.lines source targets new.runs.list.runs links b.end at level.late
+  late-laid = laid-later v.lines source targets v.runs new.runs.list.runs v.links (link ∷ []) later b.end at level.late level.closed.laid
 
-  stop-laid : AreLaid v.lines source targets new.runs.runs.items links at end (stop ∷ [])
+  stop-laid : AreLaid v.lines source targets new.runs.list.runs links at end (stop ∷ [])
   stop-laid = (none-laid v.lines source at bracket_at, (omega (arith, order), bracket_at, boundary), is-link, none-laid v.lines source end boundary)
 
   closed-parts : all_parts (segment ∷ []) ≡ parts_between source targets links level.at end (start ∷ (level.late ++ stop ∷ []))
@@ -268,11 +268,11 @@ module _ (source : List ℕ) (targets : Targets) (at end : ℕ) (old new : Reade
   closed-parts =
       let tagged : (f : Tag → Event) → Known (f tag ∷ []) ≡ Known (f (tag_numbered source targets links n) ∷ []) = λ f. ap (λ l. Known (f (link_tag source targets n l) ∷ [])) (sym known) in
       append-nil (linked_parts tag (all_parts within))
-      ∙ ap (λ t. Known (Start tag ∷ []) ∷ (t ++ Known (End tag ∷ []) ∷ [])) (level.closed.parts ∙ sym (parts-later v.lines source targets v.runs new.runs.runs.items v.links (link ∷ []) later b.end at level.late level.closed.laid))
+      ∙ ap (λ t. Known (Start tag ∷ []) ∷ (t ++ Known (End tag ∷ []) ∷ [])) (level.closed.parts ∙ sym (parts-later v.lines source targets v.runs new.runs.list.runs v.links (link ∷ []) later b.end at level.late level.closed.laid))
       ∙ ap (λ t. t ∷ (parts_between source targets links b.end at level.late ++ Known (End tag ∷ []) ∷ [])) (tagged Start)
       ∙ ap (λ t. part_of source targets links start ∷ (parts_between source targets links b.end at level.late ++ t ∷ [])) (tagged End)
-      ∙ ap (λ t. part_of source targets links start ∷ (parts_between source targets links b.end at level.late ++ t)) (sym (parts-one v.lines source targets new.runs.runs.items links stop))
-      ∙ ap (λ t. part_of source targets links start ∷ t) (sym (parts-join v.lines source targets new.runs.runs.items links b.end at end level.late (stop ∷ []) late-laid stop-laid))
+      ∙ ap (λ t. part_of source targets links start ∷ (parts_between source targets links b.end at level.late ++ t)) (sym (parts-one v.lines source targets new.runs.list.runs links stop))
+      ∙ ap (λ t. part_of source targets links start ∷ t) (sym (parts-join v.lines source targets new.runs.list.runs links b.end at end level.late (stop ∷ []) late-laid stop-laid))
       ∙ ap (λ t. texts t ++ part_of source targets links start ∷ parts_between source targets links b.end end (level.late ++ stop ∷ [])) (sym (slice-none source level.at))
 
   closed : AreClosed now level.at end (segment ∷ []) (start ∷ (level.late ++ stop ∷ []))
@@ -298,14 +298,14 @@ module _ (source : List ℕ) (targets : Targets) (at end : ℕ) (old new : Reade
 
       go : (u : Bool) → holds ≡ u → AreOpen now bs outside level.early level.at u
       go true e =
-          let behind : new.links_end ≡ length v.marks + 1 = s.links_end ∙ ap (λ u. if u then length v.marks + 1 else v.links_end) e in
-          open-linked leaf new.runs.runs.items (link ∷ []) new.links_end bs outside level.early level.at (holds_link (items_in within) || false) later
-          (omega (arith, behind, ap length level.marks_are, length-append level.early (opener ∷ level.late))) level.below
+          let beyond : new.links_end ≡ length v.marks + 1 = s.links_end ∙ ap (λ u. if u then length v.marks + 1 else v.links_end) e in
+          open-linked leaf new.runs.list.runs (link ∷ []) new.links_end bs outside level.early level.at (holds_link (items_in within) || false) later
+          (omega (arith, beyond, ap length level.marks_are, length-append level.early (opener ∷ level.late))) level.below
       go false e =
           let same : new.links_end ≡ v.links_end = s.links_end ∙ ap (λ u. if u then length v.marks + 1 else v.links_end) e in
           let not_linked : holds_link (items_in within) || false ≡ false = sym level.link ∙ none (not b.image) (nat_lt b.mark v.links_end) e in
-          subst (λ k. AreOpen (later_leaf leaf new.runs.runs.items (link ∷ []) k) bs outside level.early level.at false) (sym same)
-          (open-later leaf new.runs.runs.items (link ∷ []) bs outside level.early level.at false later (subst (AreOpen leaf bs outside level.early level.at) not_linked level.below))
+          subst (λ k. AreOpen (later_leaf leaf new.runs.list.runs (link ∷ []) k) bs outside level.early level.at false) (sym same)
+          (open-later leaf new.runs.list.runs (link ∷ []) bs outside level.early level.at false later (subst (AreOpen leaf bs outside level.early level.at) not_linked level.below))
 
   open-now : AreOpen now bs (outside ++ segment ∷ []) (level.early ++ start ∷ (level.late ++ stop ∷ [])) end false
   open-now = open-more now bs outside (segment ∷ []) level.early (start ∷ (level.late ++ stop ∷ [])) level.at end false (subst (AreOpen now bs outside level.early level.at) (sym holds-it) below) closed
@@ -352,7 +352,7 @@ module _ (source : List ℕ) (targets : Targets) (at end : ℕ) (old new : Reade
     links_low = low-end holds refl;
     few_runs = omega (arith, r.few_runs, s.runs.long, order);
     few_links = omega (arith, r.few_links, ap length s.links, length-append old.links.items (link ∷ []), order);
-    high = omega (arith, behind-append 0 outside (segment ∷ []));
+    high = omega (arith, beyond-append 0 outside (segment ∷ []));
     starts = omega (arith, starts-are, length-map new.runs.pairs.items pair_in, ap length s.links);
   }
     where
@@ -363,14 +363,14 @@ module _ (source : List ℕ) (targets : Targets) (at end : ℕ) (old new : Reade
       low-end : (u : Bool) → holds ≡ u → new.links_end ≤ length new.marks.items
       low-end u e = omega (arith, r.links_low, ap length marks-are, length-append level.early (start ∷ (level.late ++ stop ∷ [])), length-append level.late (stop ∷ []), ap length level.marks_are, length-append level.early (opener ∷ level.late), go u (s.links_end ∙ ap (λ u. if u then length v.marks + 1 else v.links_end) e))
 
--- the items with a link or an image for the bracket and what is behind it
+-- the items with a link or an image for the bracket and what is after it
 made-items : (front inside : List Segment) (image : Bool) (dest title : List ℕ) (high : ℕ) (parts : List Part) → items_in (front ++ Made parts (made image dest title (items_in inside)) high ∷ []) ≡ link_made (items_in front) (items_in inside) image dest title
 unfolding items_in
 made-items front inside image dest title high parts = items-append front (Made parts (made image dest title (items_in inside)) high ∷ [])
 
--- The source is read on behind it.
+-- The source is read on after it.
 pub link-closes : (rules : Rules) (source : List ℕ) (targets : Targets) (at end : ℕ) (was old new : Reader) (others : List Bracket) (b : Bracket) (target : PlacedTarget) → Stands source at 93 → was.brackets.items ≡ others ++ b ∷ [] → new.brackets.items ≡ others
-    → view_of old ≡ view_of was → was.runs.openers.looks ≡ old.runs.openers.looks → at < end → IsCharBoundary source end → IsTargetIn source targets target → b.end ≤ at
+    → view_of old ≡ view_of was → was.runs.list.looks ≡ old.runs.list.looks → at < end → IsCharBoundary source end → IsTargetIn source targets target → b.end ≤ at
     → end_for rules (defined_in targets) source b old.links_end at ≡ Some (record { dest = (target_in source targets target).0; title = (target_in source targets target).1; rest = drop end source })
     → IsLinked source at end old new b target → Reading rules source targets at was → Reading rules source targets end new
 link-closes rules source targets at end was old new others b target stands had has view looks further boundary there order ends s g =
@@ -386,12 +386,12 @@ link-closes rules source targets at end was old new others b target stands had h
     let more = level.front ++ one ∷ [] in
     let read : IsReadTo source targets end new more = subst (λ t. IsRead source targets end (view_of new) (reverse t) more) (sym has) (link-read source targets at end old new b bs target g.segments r s further boundary there r.boundary) in
     let before = old-items source targets at (view_of old) b bs g.segments r in
-    let is : items_in more ≡ link_made outer inner b.image dest title = made-items level.front level.inside b.image dest title (length new.runs.runs.items) (linked_parts (LinkTag (length old.links.items) b.image dest title) (all_parts level.inside)) in
+    let is : items_in more ≡ link_made outer inner b.image dest title = made-items level.front level.inside b.image dest title (length new.runs.list.runs) (linked_parts (LinkTag (length old.links.items) b.image dest title) (all_parts level.inside)) in
     let holds : holds_link inner ≡ nat_lt b.mark old.links_end = sym (or-none (holds_link inner)) ∙ sym level.link in
     let pass = p source targets at end old new b bs target g.segments r s further boundary there r.boundary in
     goes-on rules source targets at end was new stands further g more read
     (ap (λ t. closed_at rules (defined_in targets) source t at) before ∙ closes-opener rules (defined_in targets) source outer inner b at old.links_end level.closed.none holds order stands.within
     ∙ ap (closed_or outer inner b.image (drop (at + 1) source)) ends ∙ ap (λ t. record { items = reverse t; rest = drop end source }) (sym is))
-    (subst (λ n. Keeps n (items_in g.segments) new.runs.openers.looks (items_in more)) (sym looks)
-    (subst (λ t. Keeps old.runs.openers.looks t new.runs.openers.looks (items_in more)) (sym before) (subst (λ t. Keeps old.runs.openers.looks (outer ++ Opener b.image (drop b.end source) ∷ inner) new.runs.openers.looks t) (sym is)
-    (keeps-link old.runs.openers.looks outer inner b.image (drop b.end source) dest title new.runs.openers.looks (subst (AreLooks old.runs.openers.looks inner new.runs.openers.looks) (sym (settled-holds (pair_all inner))) pass.looks)))))
+    (subst (λ n. Keeps n (items_in g.segments) new.runs.list.looks (items_in more)) (sym looks)
+    (subst (λ t. Keeps old.runs.list.looks t new.runs.list.looks (items_in more)) (sym before) (subst (λ t. Keeps old.runs.list.looks (outer ++ Opener b.image (drop b.end source) ∷ inner) new.runs.list.looks t) (sym is)
+    (keeps-link old.runs.list.looks outer inner b.image (drop b.end source) dest title new.runs.list.looks (subst (AreLooks old.runs.list.looks inner new.runs.list.looks) (sym (settled-holds (pair_all inner))) pass.looks)))))

@@ -1,11 +1,14 @@
 -- What a `]` asks of the reader, and how deep what it makes nests.
-use Rattle.cm_inline.proofs.lemmas.Words.{◌≡◌, ℕ, ◌+◌, ◌-◌, ◌^◌, ◌<◌, ◌≤◌, Bool, true, false, List, [], ◌∷◌, ◌++◌, length, drop, get_or, reverse, Some, refl, sym, ap}
+use Rattle.cm_inline.proofs.lemmas.Words.{◌≡◌, ℕ, ◌+◌, ◌-◌, ◌^◌, ◌<◌, ◌≤◌, Bool, true, false, List, [], ◌∷◌, ◌++◌, length, drop, get_or, reverse, Some, refl, sym, ap, subst}
 use Rattle.cm_inline.proofs.lemmas.Words.{◌∙◌, arith, length-append, get_or-drop, IsCharBoundary-after_ascii, nat_lt, reverse-append, length-map, get_or-map}
 use Rattle.cm_inline.proofs.lemmas.Words.{drop-append_seam, sum_by-cons, sum_by-append, Rules, Targets, LinkEnd, Bracketed, defined_in, holds_link, made, nests_past}
 use Rattle.cm_inline.proofs.lemmas.Words.{Item, Delimiters, bracket_text, pair_all, Bracket, Reader, HeldRun, Runs, rules, nat_tests}
 use Rattle.cm_inline.specs.Closers.{all_kinds}
 use Rattle.cm_inline.specs.steps.pairing.Parts.{Pair, PairedRun, no_run as no_paired_run}
-use Rattle.cm_inline.specs.steps.pairing.Passes.{paid_by, AreNumbers, CanPass, WaitFrom}
+use Rattle.cm_inline.specs.steps.pairing.Passes.{number_after, paid_by, AllLeft, AreNumbers, CanPass, WaitFrom}
+use Rattle.cm_inline.specs.steps.pairing.Paired.{AreRuns}
+use Rattle.cm_inline.proofs.lemmas.KeptLemmas.{segments-split}
+use Rattle.cm_inline.proofs.lemmas.PassLoopLemmas.{inside-waits}
 use Rattle.cm_inline.specs.steps.pairing.Segments.{Segment, Waiting, Made, items_in, numbers_in, is_run, AreSegments}
 use Rattle.cm_inline.specs.steps.pairing.States.{no_run, run_at}
 use Rattle.cm_inline.specs.steps.Brackets.{View, view_of, IsOpener, IsRead, Reading, closed_at, end_for}
@@ -13,7 +16,7 @@ use Rattle.cm_inline.specs.steps.Depths.{items_depth}
 use Rattle.cm_inline.specs.steps.Links.{AreBrackets}
 use Rattle.cm_inline.specs.steps.Pairs.{allowed, allowance}
 use Rattle.cm_inline.specs.steps.Reads.{Stands, ahead}
-use Rattle.cm_inline.specs.steps.Runs.{runs_in, paired_run}
+use Rattle.cm_inline.specs.steps.Runs.{runs_in, paired_run, pairs_in}
 use Rattle.cm_inline.proofs.lemmas.BracketLemmas.{closes-opener, link_made, closed_or}
 use Rattle.cm_inline.proofs.lemmas.ClosedLinkLemmas.{before, inside, awaits, again, or-none}
 use Rattle.cm_inline.proofs.lemmas.DeeperLemmas.{made-depth}
@@ -25,16 +28,16 @@ use Rattle.cm_inline.proofs.lemmas.RightBracketLemmas.{old-items}
 use Rattle.cm_inline.proofs.lemmas.WholeLemmas.{closed-deeper, nests-ahead}
 use Rattle.cm_inline.proofs.lemmas.InlineDepthLemmas.{both}
 
--- a `[` before the place behind an opener
-pub left-bracket : (source : List ℕ) (image : Bool) (at behind : ℕ) → IsOpener source image at behind → (0 < behind) × (get_or source (behind - 1) 0 ≡ 91)
-left-bracket source image at behind o = go image o.place o.front
+-- a `[` before the place after an opener
+pub left-bracket : (source : List ℕ) (image : Bool) (at after : ℕ) → IsOpener source image at after → (0 < after) × (get_or source (after - 1) 0 ≡ 91)
+left-bracket source image at after o = go image o.place o.front
   where
-    there : (n : ℕ) (text : List ℕ) → at + n ≡ behind - 1 → drop at source ≡ text → get_or source (behind - 1) 0 ≡ get_or text n 0
+    there : (n : ℕ) (text : List ℕ) → at + n ≡ after - 1 → drop at source ≡ text → get_or source (after - 1) 0 ≡ get_or text n 0
     there n text place is = ap (λ k. get_or source k 0) (sym place) ∙ sym (get_or-drop at source n 0) ∙ ap (λ t. get_or t n 0) is
 
-    go : (image : Bool) → at + length (bracket_text image) ≡ behind → drop at source ≡ bracket_text image ++ drop behind source → (0 < behind) × (get_or source (behind - 1) 0 ≡ 91)
-    go true place front = (omega (arith, place), there 1 (33 ∷ 91 ∷ drop behind source) (omega (arith, place)) front)
-    go false place front = (omega (arith, place), there 0 (91 ∷ drop behind source) (omega (arith, place)) front)
+    go : (image : Bool) → at + length (bracket_text image) ≡ after → drop at source ≡ bracket_text image ++ drop after source → (0 < after) × (get_or source (after - 1) 0 ≡ 91)
+    go true place front = (omega (arith, place), there 1 (33 ∷ 91 ∷ drop after source) (omega (arith, place)) front)
+    go false place front = (omega (arith, place), there 0 (91 ∷ drop after source) (omega (arith, place)) front)
 
 pub are-brackets : (source : List ℕ) (targets : Targets) (at : ℕ) (v : View) (b : Bracket) (bs : List Bracket) (segments : List Segment) → IsRead source targets at v (b ∷ bs) segments → Stands source at 93 → AreBrackets source b.end at
 are-brackets source targets at v b bs segments r stands =
@@ -67,9 +70,22 @@ waiting-pay low runs pairs (Waiting number run ∷ ss) h =
     omega (arith, left, sum_by-cons (λ number. all_kinds + 1 + (run_at runs number).run.left) number (numbers_in ss), sum_by-cons (allowed all_kinds) (Delimiters run) (items_in ss), waiting-pay (number + 1) runs pairs ss h.3)
 waiting-pay low runs pairs (Made parts item high ∷ ss) h = omega (arith, sum_by-cons (allowed all_kinds) item (items_in ss), other-pays item h.0.other, waiting-pay high runs pairs ss h.1)
 
--- so that pairs can be made of those behind a front
-pub can-pass : (from : ℕ) (runs : Runs) (front inside : List Segment) → WaitFrom from runs front inside → runs.openers.looks + allowance all_kinds (items_in (front ++ inside)) < 2 ^ 127 → CanPass from runs
-can-pass from runs front inside a few = search (rules, inside, length-append, waiting-rise, waiting-pay, numbers-append, drop-append_seam, sum_by-append)
+waiting-left : (low : ℕ) (runs : List HeldRun) (pairs : List Pair) (ss : List Segment) → AreSegments (runs_in runs) pairs low ss → AreRuns ss → AllLeft runs (numbers_in ss)
+unfolding numbers_in
+waiting-left low runs pairs [] h m = tt
+waiting-left low runs pairs (Waiting number run ∷ ss) h m =
+    let left : (run_at runs number).run.left ≡ run.left = ap (λ (r : PairedRun). r.run.left) (sym (get_or-map paired_run runs number no_run no_paired_run (omega (arith, h.1, length-map runs paired_run))) ∙ h.2) in
+    (omega (arith, left, m.1), waiting-left (number + 1) runs pairs ss h.3 m.2)
+waiting-left low runs pairs (Made parts item high ∷ ss) h m = waiting-left high runs pairs ss h.1 m
+
+inside-left : (from : ℕ) (runs : Runs) (front inside : List Segment) → WaitFrom from runs front inside → AllLeft runs.list.runs (drop from runs.waiting.items)
+inside-left from runs front inside a =
+    subst (AllLeft runs.list.runs) (sym (inside-waits from runs front inside a))
+    (waiting-left (number_after 0 front) runs.list.runs (pairs_in runs.pairs.items) inside (segments-split 0 (runs_in runs.list.runs) (pairs_in runs.pairs.items) front inside a.segments).1 a.marked)
+
+-- so that pairs can be made of those after a front
+pub can-pass : (from : ℕ) (runs : Runs) (front inside : List Segment) → WaitFrom from runs front inside → runs.list.looks + allowance all_kinds (items_in (front ++ inside)) < 2 ^ 127 → CanPass from runs
+can-pass from runs front inside a few = search (rules, inside, inside-left, length-append, waiting-rise, waiting-pay, numbers-append, drop-append_seam, sum_by-append)
 
 -- the last open bracket of a reader, whose brackets are the others
 pub last-read : (source : List ℕ) (targets : Targets) (at : ℕ) (was old : Reader) (others : List Bracket) (b : Bracket) (segments : List Segment) → was.brackets.items ≡ others ++ b ∷ [] → view_of old ≡ view_of was
@@ -77,10 +93,10 @@ pub last-read : (source : List ℕ) (targets : Targets) (at : ℕ) (was old : Re
 last-read source targets at was old others b segments had view r = grind (arith, nat_tests, reverse-append)
 
 pub bracket-passes : (rules : Rules) (source : List ℕ) (targets : Targets) (at : ℕ) (was old : Reader) (others : List Bracket) (b : Bracket) → was.brackets.items ≡ others ++ b ∷ [] → view_of old ≡ view_of was
-    → was.runs.openers.looks ≡ old.runs.openers.looks → Reading rules source targets at was → CanPass b.waiting old.runs
+    → was.runs.list.looks ≡ old.runs.list.looks → Reading rules source targets at was → CanPass b.waiting old.runs
 bracket-passes rules source targets at was old others b had view looks g =
     let r = last-read source targets at was old others b g.segments had view g.read in
-    let few = pays-few rules (defined_in targets) source (items_in g.segments) at was.runs.openers.looks g.pays (omega (arith, r.short)) in
+    let few = pays-few rules (defined_in targets) source (items_in g.segments) at was.runs.list.looks g.pays (omega (arith, r.short)) in
     can-pass b.waiting old.runs (before source targets at old b (reverse others) g.segments r) (inside source targets at old b (reverse others) g.segments r) (awaits source targets at old b (reverse others) g.segments r)
     (omega (arith, few, looks, ap (λ t. allowance all_kinds (items_in t)) (again source targets at old b (reverse others) g.segments r)))
 

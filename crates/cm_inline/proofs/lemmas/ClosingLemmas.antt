@@ -4,9 +4,8 @@ use Rattle.cm_inline.proofs.lemmas.Words.{set, Some, None, refl, sym, ap, subst,
 use Rattle.cm_inline.proofs.lemmas.Words.{get_or-set_other, length-set, take_all, cond-false, ne_eqb, leb-true, le-leb, Run, Item, Delimiters, Opened, nearest_opener}
 use Rattle.cm_inline.proofs.lemmas.Words.{used, without, up_to_pair, passed, opened_at, rules, nat_tests, Finished, emphasised, settled}
 use Rattle.cm_inline.specs.steps.Entries.{Entry, Listed}
-use Rattle.cm_inline.specs.steps.Openers.{spent}
 use Rattle.cm_inline.specs.steps.Pairs.{items_emphases}
-use Rattle.cm_inline.specs.steps.Searching.{kind, IsMarked, find_opener, looks_for}
+use Rattle.cm_inline.specs.steps.Searching.{kind, IsMarked, find_opener, looks_for, spent}
 use Rattle.cm_inline.proofs.lemmas.NumberLemmas.{nat-split as nat_split}
 use Rattle.cm_inline.specs.steps.Depths.{items_depth}
 use Rattle.cm_inline.proofs.lemmas.InlineDepthLemmas.{emphasised-depth}
@@ -190,7 +189,7 @@ ends-starts (p ∷ ps) = ends-starts ps
 so-far-starts : (parts : List Part) (first : ℕ) (s : State) → starts_in (so_far parts first s) ≡ starts_in (events_of s.runs s.pairs parts)
 so-far-starts parts first s = omega (arith, starts-append (events_of s.runs s.pairs parts) (ends (drop first s.pairs)), ends-starts (drop first s.pairs))
 
--- The closer's part is put behind.
+-- The closer's part is put after.
 
 pub events-elsewhere : (n : ℕ) (now : PairedRun) (runs : List PairedRun) (pairs : List Pair) (ms : List Part) → AreUnder n ms → events_of (set runs n now) pairs ms ≡ events_of runs pairs ms
 unfolding events_of
@@ -237,10 +236,10 @@ so-far-finished parts number first left run list s within under =
 abbrev pub AreLow : ℕ → List Event → Type 0
 AreLow n fs = AreSuch (λ k r. k < n) fs
 
-rising-behind : (low n : ℕ) (r : Run) (fs : List Event) → Rising low fs → low ≤ n → AreLow n fs → Rising low (fs ++ Rest n r ∷ [])
-rising-behind low n r [] h p a = (p, tt)
-rising-behind low n r (Rest k q ∷ fs) h p a = (h.0, rising-behind (suc k) n r fs h.1 (omega (arith, a.0)) a.1)
-rising-behind low n r (_ ∷ fs) h p a = rising-behind low n r fs h p a
+rising-beyond : (low n : ℕ) (r : Run) (fs : List Event) → Rising low fs → low ≤ n → AreLow n fs → Rising low (fs ++ Rest n r ∷ [])
+rising-beyond low n r [] h p a = (p, tt)
+rising-beyond low n r (Rest k q ∷ fs) h p a = (h.0, rising-beyond (suc k) n r fs h.1 (omega (arith, a.0)) a.1)
+rising-beyond low n r (_ ∷ fs) h p a = rising-beyond low n r fs h p a
 
 pub low-parts : (n : ℕ) (runs : List PairedRun) (pairs : List Pair) (ms : List Part) → AreUnder n ms → AreParts runs pairs ms → AreLow n (events_of runs pairs ms)
 low-parts n runs pairs ms u h = such-parts (λ k r. k < n) runs pairs ms (under-all n n ms (omega arith) u) h
@@ -249,7 +248,7 @@ low-so-far : (n first : ℕ) (s : State) (parts : List Part) → AreUnder n part
 low-so-far n first s parts u h =
     such-append (λ k r. k < n) (events_of s.runs s.pairs parts) (ends (drop first s.pairs)) (low-parts n s.runs s.pairs parts u h) (such-none (λ k r. k < n) _ (ends-none (drop first s.pairs)))
 
--- So its part is put behind.
+-- So its part is put after.
 pub put-finished : (parts : List Part) (old : State) (number left : ℕ) (run : Run) (had : List Item) (s : State) → number < length s.runs → number ≡ s.list.next → CloserDone parts old run had s left
     → PartAdded parts old run had (finished number (length old.pairs) left run s.list s) number left
 put-finished parts old number left run had s within at d =
@@ -267,7 +266,7 @@ put-finished parts old number left run had s within at d =
       marked = parts-append (set s.runs number now) s.pairs parts (Numbered number ∷ []) (parts-elsewhere number now s.runs s.pairs parts under w.marked)
           (omega (arith, within, length-set s.runs number now), omega (arith, ap (λ (p : PairedRun). p.opened) is), omega (arith, ap (λ (p : PairedRun). p.to) is), tt);
       under = under;
-      rising = rising-behind 0 number (record run { left = left }) (so_far parts first s) w.rising (omega arith) (low-so-far number first s parts under w.marked);
+      rising = rising-beyond 0 number (record run { left = left }) (so_far parts first s) w.rising (omega arith) (low-so-far number first s parts under w.marked);
       goes = d.goes;
       rest_is = d.rest_is;
       paid = d.paid;
@@ -275,11 +274,11 @@ put-finished parts old number left run had s within at d =
       starts = omega (arith, d.starts, so-far-starts parts first s);
     }
 
--- a run that closes nothing is put behind as it is
+-- a run that closes nothing is put after as it is
 pub put-other : (parts : List Part) (s : State) (number : ℕ) (run : Run) (had : List Item) → number < length s.runs → number ≡ s.list.next → get_or s.runs number no_run ≡ closed_run run 0 0 → run.closes ≡ false → 1 ≤ run.left → PartsHold parts (length s.pairs) s had
     → PartAdded parts s run had s number run.left
 unfolding events_of
-put-other parts s number run had within at is other some w = search (rules, drop-all, append-nil, events-append, chain-zero, parts-append, rising-behind, low-so-far, pass-other, cond-false, not-none, so-far-starts)
+put-other parts s number run had within at is other some w = search (rules, drop-all, append-nil, events-append, chain-zero, parts-append, rising-beyond, low-so-far, pass-other, cond-false, not-none, so-far-starts)
 
 -- The pass goes on, and the list is as waits-opener, waits-text or waits-gone has it.
 pub next-put : (parts : List Part) (old : State) (run : Run) (had : List Item) (s : State) (number left : ℕ) (list : Listed) (after : List Item) → (p : PartAdded parts old run had s number left) → list.next ≡ number + 1 → after ≡ passed had (Delimiters run)

@@ -8,7 +8,7 @@ unfolding build
 build-append m [] gs = refl
 build-append m (f ∷ fs) gs = build-append (build_one m f) fs gs
 
--- events behind one another stand for items behind one another
+-- events after one another stand for items after one another
 pub means-append : (fs gs : List Event) (xs ys : List Item) → Means fs xs → Means gs ys → Means (fs ++ gs) (xs ++ ys)
 means-append fs gs xs ys f g m =
     build-append m fs gs ∙ g (build m fs) ∙ ap (λ t. build t (leaves ys)) (f m) ∙ sym (build-append m (leaves xs) (leaves ys)) ∙ ap (build m) (sym (map-append leaf xs ys))
@@ -30,8 +30,8 @@ leaves-outer (Linked i ∷ items) m = leaves-outer items (build_one m (leaf (Lin
 leaves-outer (Delimiters r ∷ items) m = leaves-outer items (build_one m (leaf (Delimiters r)))
 leaves-outer (Opener b s ∷ items) m = leaves-outer items (build_one m (leaf (Opener b s)))
 
-behind : (content more : List Inline) (text : List ℕ) (i : Inline) → (content ++ text_before text (i ∷ [])) ++ more ≡ content ++ text_before text (i ∷ more)
-behind content more text i =
+beyond : (content more : List Inline) (text : List ℕ) (i : Inline) → (content ++ text_before text (i ∷ [])) ++ more ≡ content ++ text_before text (i ∷ more)
+beyond content more text i =
     ap (λ t. (content ++ t) ++ more) (text-split text (i ∷ [])) ∙ append_assoc content (text_before text [] ++ i ∷ []) more
     ∙ ap (λ t. content ++ t) (append_assoc (text_before text []) (i ∷ []) more ∙ sym (text-split text (i ∷ more)))
 
@@ -39,8 +39,8 @@ pub leaves-settle : (items : List Item) (m : Built) → ended (build m (leaves i
 unfolding build settled_after
 leaves-settle [] m = refl
 leaves-settle (Characters t ∷ items) m = leaves-settle items (build_one m (leaf (Characters t)))
-leaves-settle (Finished i ∷ items) m = leaves-settle items (build_one m (leaf (Finished i))) ∙ behind m.content (settled_after [] items) m.text i
-leaves-settle (Linked i ∷ items) m = leaves-settle items (build_one m (leaf (Linked i))) ∙ behind m.content (settled_after [] items) m.text i
+leaves-settle (Finished i ∷ items) m = leaves-settle items (build_one m (leaf (Finished i))) ∙ beyond m.content (settled_after [] items) m.text i
+leaves-settle (Linked i ∷ items) m = leaves-settle items (build_one m (leaf (Linked i))) ∙ beyond m.content (settled_after [] items) m.text i
 leaves-settle (Delimiters r ∷ items) m = leaves-settle items (build_one m (leaf (Delimiters r)))
 leaves-settle (Opener b s ∷ items) m = leaves-settle items (build_one m (leaf (Opener b s)))
 

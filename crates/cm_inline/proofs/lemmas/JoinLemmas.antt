@@ -37,8 +37,8 @@ module _ (lines : Bool) (source : List ℕ) (targets : Targets) (runs : List Hel
   unfolding parts_between
   parts-join from mid to [] [] h g = texts-both source from mid to h.between.0 g.between.0
   parts-join from mid to [] (n ∷ ns) h g =
-      let behind = part_of source targets links n ∷ parts_between source targets links n.end to ns in
-      ap (λ t. t ++ behind) (texts-both source from mid n.at h.between.0 g.0.between.0) ∙ append_assoc (texts (slice_range source from mid)) (texts (slice_range source mid n.at)) behind
+      let beyond = part_of source targets links n ∷ parts_between source targets links n.end to ns in
+      ap (λ t. t ++ beyond) (texts-both source from mid n.at h.between.0 g.0.between.0) ∙ append_assoc (texts (slice_range source from mid)) (texts (slice_range source mid n.at)) beyond
   parts-join from mid to (m ∷ ms) ns h g =
       let text = texts (slice_range source from m.at) in
       ap (λ t. text ++ part_of source targets links m ∷ t) (parts-join m.end mid to ms ns h.3 g)

@@ -12,38 +12,38 @@ made-free kinds image dest title inside = grind (arith, nat_tests)
 first-pays : (kinds : ℕ) (item : Item) (items : List Item) → allowance kinds (item ∷ items) ≡ allowed kinds item + allowance kinds items
 first-pays kinds item items = allowance-both kinds (item ∷ []) items ∙ ap (λ n. n + allowance kinds items) (allowance-one kinds item)
 
-module _ (looks : ℕ) (outside inside : List Item) (image : Bool) (behind : List ℕ) where
+module _ (looks : ℕ) (outside inside : List Item) (image : Bool) (after : List ℕ) where
   abbrev whole : List Item
-  whole = outside ++ Opener image behind ∷ inside
+  whole = outside ++ Opener image after ∷ inside
 
   -- a link or an image
   pub keeps-link : (dest title : List ℕ) (later : ℕ) → AreLooks looks inside later (emphases (emphasis_of inside)) → Keeps looks whole later (outside ++ made image dest title inside ∷ [])
   keeps-link dest title later w = record {
-    are = λ kinds is. (let parts = of-split kinds outside (Opener image behind ∷ inside) is in of-append kinds outside (made image dest title inside ∷ []) parts.0 ((made-free kinds image dest title inside).0, tt));
+    are = λ kinds is. (let parts = of-split kinds outside (Opener image after ∷ inside) is in of-append kinds outside (made image dest title inside ∷ []) parts.0 ((made-free kinds image dest title inside).0, tt));
     paid = λ kinds is.
-        let parts = of-split kinds outside (Opener image behind ∷ inside) is in
+        let parts = of-split kinds outside (Opener image after ∷ inside) is in
         omega (
           arith,
           w.paid kinds parts.1.1,
-          allowance-both kinds outside (Opener image behind ∷ inside),
-          first-pays kinds (Opener image behind) inside,
+          allowance-both kinds outside (Opener image after ∷ inside),
+          first-pays kinds (Opener image after) inside,
           allowance-both kinds outside (made image dest title inside ∷ []),
           allowance-one kinds (made image dest title inside),
           (made-free kinds image dest title inside).1,
         );
-    made = omega (arith, w.made, both-hold outside (Opener image behind ∷ inside), both-hold outside (made image dest title inside ∷ []), made-holds image dest title inside);
+    made = omega (arith, w.made, both-hold outside (Opener image after ∷ inside), both-hold outside (made image dest title inside ∷ []), made-holds image dest title inside);
   }
 
   -- brackets as text
   pub keeps-text : (opener closer : List ℕ) → Keeps looks whole looks (outside ++ Characters opener ∷ (inside ++ Characters closer ∷ []))
   keeps-text opener closer = record {
     are = λ kinds is.
-        let parts = of-split kinds outside (Opener image behind ∷ inside) is in
+        let parts = of-split kinds outside (Opener image after ∷ inside) is in
         of-append kinds outside (Characters opener ∷ (inside ++ Characters closer ∷ [])) parts.0 (tt, of-append kinds inside (Characters closer ∷ []) parts.1.1 (tt, tt));
     paid = λ kinds is. omega (
       arith,
-      allowance-both kinds outside (Opener image behind ∷ inside),
-      first-pays kinds (Opener image behind) inside,
+      allowance-both kinds outside (Opener image after ∷ inside),
+      first-pays kinds (Opener image after) inside,
       allowance-both kinds outside (Characters opener ∷ (inside ++ Characters closer ∷ [])),
       first-pays kinds (Characters opener) (inside ++ Characters closer ∷ []),
       allowance-both kinds inside (Characters closer ∷ []),
@@ -51,7 +51,7 @@ module _ (looks : ℕ) (outside inside : List Item) (image : Bool) (behind : Lis
     );
     made = omega (
       arith,
-      both-hold outside (Opener image behind ∷ inside),
+      both-hold outside (Opener image after ∷ inside),
       both-hold outside (Characters opener ∷ (inside ++ Characters closer ∷ [])),
       both-hold inside (Characters closer ∷ []),
     );

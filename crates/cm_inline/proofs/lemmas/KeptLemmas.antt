@@ -9,7 +9,7 @@ use Rattle.cm_inline.specs.steps.pairing.Segments.{Segment, Waiting, Made, all_p
 use Rattle.cm_inline.specs.steps.pairing.States.{Grows}
 use Rattle.cm_inline.proofs.lemmas.ClosingLemmas.{parts-append}
 use Rattle.cm_inline.proofs.lemmas.PartLemmas.{chain-stays, rising-once, AreSuch, AllOf, such-parts, under-all}
-use Rattle.cm_inline.proofs.lemmas.PassLemmas.{rising-behind-of}
+use Rattle.cm_inline.proofs.lemmas.PassLemmas.{rising-beyond-of}
 
 -- the numbers of segments are such
 abbrev pub AllIn : (ℕ → Type 0) → List Segment → Type 0
@@ -72,7 +72,7 @@ pub segments-same : (P : ℕ → Type 0) (low high from : ℕ) (old new : State)
     → events_of new.runs new.pairs (all_parts ss) ≡ events_of old.runs old.pairs (all_parts ss)
 segments-same P low high from old new ss g out a h = search (rules, events-kept, all-parts, segments-parts)
 
--- the numbers of segments are from the one on that they begin with, and below the one behind them
+-- the numbers of segments are from the one on that they begin with, and below the one after them
 
 pub rising-numbers : (n low : ℕ) (runs : List PairedRun) (pairs : List Pair) (ms : List Part) → n ≤ low → Rising low (events_of runs pairs ms) → AllOf (λ k. n ≤ k) ms
 unfolding events_of
@@ -81,25 +81,25 @@ rising-numbers n low runs pairs (Numbered k ∷ ms) h r =
     let p = get_or runs k no_run in
     let o = rising-once low k p.run (ends (drop p.from (take p.to pairs))) (chain (reverse pairs) p.opened ++ events_of runs pairs ms)
     (subst (Rising low) (append_assoc (ends (drop p.from (take p.to pairs))) (Rest k p.run ∷ chain (reverse pairs) p.opened) (events_of runs pairs ms)) r) in
-    (omega (arith, h, o.high), rising-numbers n low runs pairs ms h (rising-behind-of low (run_events pairs k p) (events_of runs pairs ms) r))
-rising-numbers n low runs pairs (Known fs ∷ ms) h r = rising-numbers n low runs pairs ms h (rising-behind-of low fs (events_of runs pairs ms) r)
+    (omega (arith, h, o.high), rising-numbers n low runs pairs ms h (rising-beyond-of low (run_events pairs k p) (events_of runs pairs ms) r))
+rising-numbers n low runs pairs (Known fs ∷ ms) h r = rising-numbers n low runs pairs ms h (rising-beyond-of low fs (events_of runs pairs ms) r)
 
 pub segments-from : (n low : ℕ) (runs : List PairedRun) (pairs : List Pair) (ss : List Segment) → n ≤ low → AreSegments runs pairs low ss → AllIn (λ k. n ≤ k) ss
 segments-from n low runs pairs [] h g = tt
 segments-from n low runs pairs (Waiting k run ∷ ss) h g = (omega (arith, h, g.0), segments-from n (k + 1) runs pairs ss (omega (arith, h, g.0)) g.3)
 segments-from n low runs pairs (Made parts item high ∷ ss) h g = (rising-numbers n low runs pairs parts h g.0.rising, segments-from n high runs pairs ss (omega (arith, h, g.0.high_is)) g.1)
 
-pub behind-after : (low : ℕ) (runs : List PairedRun) (pairs : List Pair) (ss : List Segment) → AreSegments runs pairs low ss → low ≤ number_after low ss
+pub beyond-after : (low : ℕ) (runs : List PairedRun) (pairs : List Pair) (ss : List Segment) → AreSegments runs pairs low ss → low ≤ number_after low ss
 unfolding number_after
-behind-after low runs pairs [] g = omega arith
-behind-after low runs pairs (Waiting k run ∷ ss) g = omega (arith, g.0, behind-after (k + 1) runs pairs ss g.3)
-behind-after low runs pairs (Made parts item high ∷ ss) g = omega (arith, g.0.high_is, behind-after high runs pairs ss g.1)
+beyond-after low runs pairs [] g = omega arith
+beyond-after low runs pairs (Waiting k run ∷ ss) g = omega (arith, g.0, beyond-after (k + 1) runs pairs ss g.3)
+beyond-after low runs pairs (Made parts item high ∷ ss) g = omega (arith, g.0.high_is, beyond-after high runs pairs ss g.1)
 
 pub segments-under : (m low : ℕ) (runs : List PairedRun) (pairs : List Pair) (ss : List Segment) → number_after low ss ≤ m → AreSegments runs pairs low ss → AllIn (λ k. k < m) ss
 unfolding number_after
 segments-under m low runs pairs [] h g = tt
-segments-under m low runs pairs (Waiting k run ∷ ss) h g = (omega (arith, h, behind-after (k + 1) runs pairs ss g.3), segments-under m (k + 1) runs pairs ss h g.3)
-segments-under m low runs pairs (Made parts item high ∷ ss) h g = (under-all high m parts (omega (arith, h, behind-after high runs pairs ss g.1)) g.0.under, segments-under m high runs pairs ss h g.1)
+segments-under m low runs pairs (Waiting k run ∷ ss) h g = (omega (arith, h, beyond-after (k + 1) runs pairs ss g.3), segments-under m (k + 1) runs pairs ss h g.3)
+segments-under m low runs pairs (Made parts item high ∷ ss) h g = (under-all high m parts (omega (arith, h, beyond-after high runs pairs ss g.1)) g.0.under, segments-under m high runs pairs ss h g.1)
 
 pub segments-split : (low : ℕ) (runs : List PairedRun) (pairs : List Pair) (ss ts : List Segment) → AreSegments runs pairs low (ss ++ ts) → AreSegments runs pairs low ss × AreSegments runs pairs (number_after low ss) ts
 unfolding number_after

@@ -1,14 +1,14 @@
 -- A label between two brackets, with more text after them and without.
+use Rattle.std.specs.Int.{is_in_range}
 use Rattle.cm_inline.proofs.lemmas.Words.{◌≡◌, ◌≢◌, ℕ, ◌<◌, ◌≤◌, ◌==◌, not, cond, Bool, true, false, List, [], ◌∷◌, ◌++◌, length, Option, Some, None, IfSome, refl}
-use Rattle.cm_inline.proofs.lemmas.Words.{sym, ap, subst, ◌∙◌, arith, list_all, and_parts, le-leb, nat_tests, sum_by-cons, is_empty, Reading, behind, label, Target}
+use Rattle.cm_inline.proofs.lemmas.Words.{sym, ap, subst, ◌∙◌, arith, list_all, and_parts, le-leb, nat_tests, sum_by-cons, is_empty, Reading, beyond, label, Target}
 use Rattle.cm_inline.proofs.lemmas.Words.{Defined, target_of, target_between}
 use Rattle.std.proofs.Common.{ap₂}
 use Rattle.std.proofs.lemmas.List.{length-append}
-use Rattle.cm_text.specs.Characters.{within}
 use Rattle.cm_text.specs.Labels.{is_gap}
-use Rattle.cm_text.specs.steps.LabelSteps.{is_bracketing, is_bare}
+use Rattle.cm_text.specs.PlainLabels.{is_bracketing, is_bare}
 use Rattle.cm_scan.specs.spans.Tags.{is_blank_byte}
-use Rattle.cm_scan.specs.Words.{given}
+use Rattle.cm_scan.specs.Words.{given, ◌and_then◌}
 use Rattle.cm_scan.specs.inlines.Links.{keep_if, escapes_next, up_to_closing, characters, is_label}
 use Rattle.cm_scan.proofs.lemmas.links.BracketedParts.{ahead}
 
@@ -25,23 +25,23 @@ data Ends (escaped : Bool) (between : List ℕ) : Type 0 where
   at_bracket : ((more : List ℕ) → inside_of escaped (closing between more) ≡ Some (record { text = between; rest = more })) → Ends escaped between
   earlier : (front left : List ℕ) → ((more : List ℕ) → inside_of escaped (closing between more) ≡ Some (record { text = front; rest = closing left more })) → Ends escaped between
   nowhere : ((more : List ℕ) → inside_of escaped (closing between more) ≡ None) → Ends escaped between
-  beyond : ((more : List ℕ) → inside_of escaped (closing between more) ≡ ahead (closing between []) (inside_of false more)) → Ends escaped between
+  reaching : ((more : List ℕ) → inside_of escaped (closing between more) ≡ ahead (closing between []) (inside_of false more)) → Ends escaped between
 
 -- what follows the bracket doesn't matter for what is escaped before it
 escapes-same : (b : ℕ) (bs more : List ℕ) → escapes_next b (closing bs more) ≡ escapes_next b (closing bs [])
 escapes-same b [] more = refl
 escapes-same b (c ∷ cs) more = refl
 
-behind-ahead : (b : ℕ) (front : List ℕ) (o : Option Reading) → behind b (ahead front o) ≡ ahead (b ∷ front) o
-behind-ahead b front o = grind (arith, nat_tests)
+beyond-ahead : (b : ℕ) (front : List ℕ) (o : Option Reading) → beyond b (ahead front o) ≡ ahead (b ∷ front) o
+beyond-ahead b front o = grind (arith, nat_tests)
 
 -- a byte that is skipped
-passed : (escaped mark : Bool) (b : ℕ) (bs : List ℕ) → ((more : List ℕ) → inside_of escaped (closing (b ∷ bs) more) ≡ behind b (inside_of mark (closing bs more)))
+passed : (escaped mark : Bool) (b : ℕ) (bs : List ℕ) → ((more : List ℕ) → inside_of escaped (closing (b ∷ bs) more) ≡ beyond b (inside_of mark (closing bs more)))
     → Ends mark bs → Ends escaped (b ∷ bs)
-passed escaped mark b bs step (at_bracket h) = at_bracket (λ more. step more ∙ ap (behind b) (h more))
-passed escaped mark b bs step (earlier front left h) = earlier (b ∷ front) left (λ more. step more ∙ ap (behind b) (h more))
-passed escaped mark b bs step (nowhere h) = nowhere (λ more. step more ∙ ap (behind b) (h more))
-passed escaped mark b bs step (beyond h) = beyond (λ more. step more ∙ ap (behind b) (h more) ∙ behind-ahead b (closing bs []) (inside_of false more))
+passed escaped mark b bs step (at_bracket h) = at_bracket (λ more. step more ∙ ap (beyond b) (h more))
+passed escaped mark b bs step (earlier front left h) = earlier (b ∷ front) left (λ more. step more ∙ ap (beyond b) (h more))
+passed escaped mark b bs step (nowhere h) = nowhere (λ more. step more ∙ ap (beyond b) (h more))
+passed escaped mark b bs step (reaching h) = reaching (λ more. step more ∙ ap (beyond b) (h more) ∙ beyond-ahead b (closing bs []) (inside_of false more))
 
 closes-here : (b : ℕ) (bs : List ℕ) → (b == 93) ≡ true → inside_of false (b ∷ bs) ≡ Some (record { text = []; rest = bs })
 unfolding up_to_closing
@@ -51,19 +51,19 @@ refused-here : (b : ℕ) (bs : List ℕ) → (b == 93) ≡ false → (b == 91) �
 unfolding up_to_closing
 refused-here b bs h k = grind (arith, h, k)
 
-goes-on : (b : ℕ) (bs : List ℕ) → (b == 93) ≡ false → (b == 91) ≡ false → inside_of false (b ∷ bs) ≡ behind b (inside_of (escapes_next b bs) bs)
+goes-on : (b : ℕ) (bs : List ℕ) → (b == 93) ≡ false → (b == 91) ≡ false → inside_of false (b ∷ bs) ≡ beyond b (inside_of (escapes_next b bs) bs)
 unfolding up_to_closing
 goes-on b bs h k = grind (arith, h, k)
 
-escaped-here : (b : ℕ) (bs : List ℕ) → inside_of true (b ∷ bs) ≡ behind b (inside_of false bs)
+escaped-here : (b : ℕ) (bs : List ℕ) → inside_of true (b ∷ bs) ≡ beyond b (inside_of false bs)
 unfolding up_to_closing
 escaped-here b bs = refl
 
-behind-one : (b : ℕ) (o : Option Reading) → behind b o ≡ ahead (b ∷ []) o
-behind-one b o = grind (arith, nat_tests)
+beyond-one : (b : ℕ) (o : Option Reading) → beyond b o ≡ ahead (b ∷ []) o
+beyond-one b o = grind (arith, nat_tests)
 
 where_it_ends : (escaped : Bool) (between : List ℕ) → Ends escaped between
-where_it_ends true [] = beyond (λ more. escaped-here 93 more ∙ behind-one 93 (inside_of false more))
+where_it_ends true [] = reaching (λ more. escaped-here 93 more ∙ beyond-one 93 (inside_of false more))
 where_it_ends false [] = at_bracket (λ more. closes-here 93 more refl)
 where_it_ends true (b ∷ bs) = passed true false b bs (λ more. escaped-here b (closing bs more)) (where_it_ends false bs)
 where_it_ends false (b ∷ bs) = go (b == 93) (b == 91) refl refl (where_it_ends (escapes_next b (closing bs [])) bs)
@@ -72,23 +72,23 @@ where_it_ends false (b ∷ bs) = go (b == 93) (b == 91) refl refl (where_it_ends
     go true forbids h k ends = earlier [] bs (λ more. closes-here b (closing bs more) h)
     go false true h k ends = nowhere (λ more. refused-here b (closing bs more) h k)
     go false false h k ends = passed false (escapes_next b (closing bs [])) b bs
-        (λ more. goes-on b (closing bs more) h k ∙ ap (λ m. behind b (inside_of m (closing bs more))) (escapes-same b bs more)) ends
+        (λ more. goes-on b (closing bs more) h k ∙ ap (λ m. beyond b (inside_of m (closing bs more))) (escapes-same b bs more)) ends
 
 -- what is left after a right bracket is less than the text
-less-behind : (b : ℕ) (bs : List ℕ) (o : Option Reading) → IfSome o (λ r. length r.rest < length bs) → IfSome (behind b o) (λ r. length r.rest < length (b ∷ bs))
-less-behind b bs o h = grind (arith, nat_tests)
+less-beyond : (b : ℕ) (bs : List ℕ) (o : Option Reading) → IfSome o (λ r. length r.rest < length bs) → IfSome (beyond b o) (λ r. length r.rest < length (b ∷ bs))
+less-beyond b bs o h = grind (arith, nat_tests)
 
 less-left : (escaped : Bool) (text : List ℕ) → IfSome (inside_of escaped text) (λ r. length r.rest < length text)
 unfolding up_to_closing
 less-left true [] = tt
 less-left false [] = tt
-less-left true (b ∷ bs) = less-behind b bs (inside_of false bs) (less-left false bs)
-less-left false (b ∷ bs) = go (b == 93) (b == 91) refl refl (less-behind b bs (inside_of (escapes_next b bs) bs) (less-left (escapes_next b bs) bs))
+less-left true (b ∷ bs) = less-beyond b bs (inside_of false bs) (less-left false bs)
+less-left false (b ∷ bs) = go (b == 93) (b == 91) refl refl (less-beyond b bs (inside_of (escapes_next b bs) bs) (less-left (escapes_next b bs) bs))
   where
     less : Option Reading → Type 0
     less o = IfSome o (λ r. length r.rest < length (b ∷ bs))
 
-    go : (closes forbids : Bool) → (b == 93) ≡ closes → (b == 91) ≡ forbids → less (behind b (inside_of (escapes_next b bs) bs)) → less (inside_of false (b ∷ bs))
+    go : (closes forbids : Bool) → (b == 93) ≡ closes → (b == 91) ≡ forbids → less (beyond b (inside_of (escapes_next b bs) bs)) → less (inside_of false (b ∷ bs))
     go true forbids h k more = subst less (sym (closes-here b bs h)) (omega arith)
     go false true h k more = subst less (sym (refused-here b bs h k)) tt
     go false false h k more = subst less (sym (goes-on b bs h k)) more
@@ -100,10 +100,7 @@ label-of bs o h = ap (keep_if is_label) h
 
 -- what a reading of the brackets alone comes to
 abbrev found_by : Defined → List ℕ → Option Reading → Option Target
-found_by defined between read = elim read [
-  | Some l ↦ elim (is_empty l.rest) [ true ↦ target_of defined between | false ↦ None ]
-  | None ↦ None
-]
+found_by defined between read = read and_then λ l. elim (is_empty l.rest) [ true ↦ target_of defined between | false ↦ None ]
 
 target-by : (defined : Defined) (between : List ℕ) (read : Option Reading) → label (91 ∷ closing between []) ≡ read → target_between defined between ≡ found_by defined between read
 target-by defined between read h = ap (found_by defined between) h
@@ -134,7 +131,7 @@ label_between defined between rest r read ends = go (where_it_ends false between
         let same : closing left rest ≡ r.rest = ap (λ (o : Option Reading). elim o as (λ _. List ℕ) [ None ↦ [] | Some q ↦ q.rest ]) whole.0 in
         absurd (omega (arith, ends, ap length same, length-append left (93 ∷ rest)))
     go (nowhere h) = absurd (let none = sym (label-of (closing between rest) None (h rest)) ∙ read in cc)
-    go (beyond h) =
+    go (reaching h) =
         let o = ahead (closing between []) (inside_of false rest) in
         let whole = kept o r (sym (label-of (closing between rest) o (h rest)) ∙ read) in
         let less = ahead-less (length rest) (closing between []) (inside_of false rest) r (less-left false rest) whole.0 in
@@ -171,7 +168,7 @@ no_label_between defined between rest o read ends = go (where_it_ends false betw
         let r : Reading = record { text = front; rest = closing left [] } in
         target-by defined between (given (is_label r) r) (label-of (closing between []) (Some r) (h [])) ∙ found-earlier (is_label r) front left
     go (nowhere h) = target-by defined between None (label-of (closing between []) None (h []))
-    go (beyond h) = target-by defined between None (label-of (closing between []) (ahead (closing between []) (inside_of false [])) (h [])
+    go (reaching h) = target-by defined between None (label-of (closing between []) (ahead (closing between []) (inside_of false [])) (h [])
         ∙ ap (λ q. keep_if is_label (ahead (closing between []) q)) nothing-inside)
 
 -- Between brackets without a bracket and a backslash
@@ -188,12 +185,12 @@ bare_inside (b ∷ bs) h =
     let parts = and_parts (not (is_bracketing b)) (list_all (λ c. not (is_bracketing c)) bs) h in
     let byte = bare-byte b parts.0 in
     goes-on b (closing bs []) byte.0 byte.1
-    ∙ ap (λ m. behind b (inside_of m (closing bs []))) (escapes-nothing b (closing bs []) byte.2)
-    ∙ ap (behind b) (bare_inside bs parts.1)
+    ∙ ap (λ m. beyond b (inside_of m (closing bs []))) (escapes-nothing b (closing bs []) byte.2)
+    ∙ ap (beyond b) (bare_inside bs parts.1)
 
 fewer-characters : (text : List ℕ) → characters text ≤ length text
 fewer-characters [] = omega arith
-fewer-characters (b ∷ bs) = omega (arith, sum_by-cons (λ c. cond (not (within 128 191 c)) 1 0) b bs, fewer-characters bs, at-most-one (not (within 128 191 b)))
+fewer-characters (b ∷ bs) = omega (arith, sum_by-cons (λ c. cond (not (is_in_range 128 191 c)) 1 0) b bs, fewer-characters bs, at-most-one (not (is_in_range 128 191 b)))
   where
     at-most-one : (kind : Bool) → cond kind 1 0 ≤ 1
     at-most-one true = omega arith

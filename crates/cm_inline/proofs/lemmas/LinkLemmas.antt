@@ -1,4 +1,5 @@
 -- What follows the right bracket of a link or an image, by what comes next in the source.
+use Rattle.cm_scan.specs.Words.{given, ◌<|>◌, ◌and_then◌}
 use Rattle.cm_inline.proofs.lemmas.Words.{◌≡◌, ◌≢◌, ℕ, suc, ◌+◌, ◌<◌, ◌≤◌, ◌==◌, Bool, true, false, List, [], ◌∷◌, ◌++◌, length, drop, get_or, Option, Some, None}
 use Rattle.cm_inline.proofs.lemmas.Words.{IfSome, codes, refl, sym, ap, subst, ◌∙◌, arith, length-append, length-drop, slice_range, IsCharBoundary, drop_more, Rules}
 use Rattle.cm_inline.proofs.lemmas.Words.{Target, begins_with, after_word, Reading, label, Defined, target_of, target_between, end_if_followed, end_at, begins-at}
@@ -56,7 +57,7 @@ word-one b text at h = word-next b [] text at h ∙ word-all (drop (at + 1) text
 -- The end of an inline link
 
 abbrev ended : List ℕ → List ℕ → Option (List ℕ) → Option brackets.LinkEnd
-ended dest title o = elim o [ Some rest ↦ Some (record { dest = unescape dest; title = unescape title; rest = rest }) | None ↦ None ]
+ended dest title o = option_map (brackets.link_end (unescape dest, unescape title)) o
 
 pub not-closed : (dest title text : List ℕ) (at end : ℕ) → drop end text ≡ after_gap (drop at text) → begins_with 41 (drop end text) ≡ false → closed dest title (drop at text) ≡ None
 not-closed dest title text at end gap next = ap (λ t. ended dest title (after_word (codes ")") t)) (sym gap) ∙ ap (ended dest title) (word-none 41 [] (drop end text) next)
@@ -83,7 +84,7 @@ abbrev in_parentheses : List ℕ → Option Reading → Option brackets.LinkEnd
 in_parentheses inside o = elim o [ Some d ↦ after_destination d.text d.rest | None ↦ closed [] [] inside ]
 
 abbrev opened : Option (List ℕ) → Option brackets.LinkEnd
-opened o = elim o [ Some inside ↦ in_parentheses inside (destination (after_gap inside)) | None ↦ None ]
+opened o = o and_then λ inside. in_parentheses inside (destination (after_gap inside))
 
 pub no-inline_end : (text : List ℕ) → begins_with 40 text ≡ false → inline_end text ≡ None
 unfolding inline_end
@@ -94,7 +95,7 @@ pub by-destination : (text gap : List ℕ) (at : ℕ) (o : Option Reading) → b
 unfolding inline_end
 by-destination text gap at o next same h = ap opened (word-one 40 text at next) ∙ ap (in_parentheses (drop (at + 1) text)) (ap destination (sym same) ∙ sym h)
 
--- a destination starts behind `<` if that comes next
+-- a destination starts after `<` if that comes next
 pub from-by : (found next : Bool) (gap : ℕ) → found ≡ next → (if found then gap + 1 else gap) ≡ (if next then gap + 1 else gap)
 from-by found next gap h = ap (λ (b : Bool). if b then gap + 1 else gap) h
 
@@ -140,31 +141,31 @@ not-both text at h = go (begins_with 91 (drop at text)) refl
 -- The label between the brackets
 
 module _ (source : List ℕ) (before at : ℕ) where
-  pub between-brackets : (behind : ℕ) → behind ≡ before + 1 → before < length source → get_or source before 0 ≡ 91 → behind ≤ at → Stands source at 93
-      → drop before source ≡ 91 ∷ (slice_range source behind at ++ 93 ∷ drop (at + 1) source)
-  between-brackets behind place within byte low stands =
+  pub between-brackets : (beyond : ℕ) → beyond ≡ before + 1 → before < length source → get_or source before 0 ≡ 91 → beyond ≤ at → Stands source at 93
+      → drop before source ≡ 91 ∷ (slice_range source beyond at ++ 93 ∷ drop (at + 1) source)
+  between-brackets beyond place within byte low stands =
       drop_more source before 0 within ∙ ap (λ b. b ∷ drop (before + 1) source) byte ∙ ap (λ n. 91 ∷ drop n source) (sym place)
-      ∙ ap (λ t. 91 ∷ t) (slice-front source behind at low ∙ ap (λ t. slice_range source behind at ++ t) (drop_more source at 0 stands.within ∙ ap (λ b. b ∷ drop (at + 1) source) stands.byte))
+      ∙ ap (λ t. 91 ∷ t) (slice-front source beyond at low ∙ ap (λ t. slice_range source beyond at ++ t) (drop_more source at 0 stands.within ∙ ap (λ b. b ∷ drop (at + 1) source) stands.byte))
 
-  pub no-label : (defined : Defined) (behind : ℕ) → behind ≡ before + 1 → before < length source → get_or source before 0 ≡ 91 → behind ≤ at → Stands source at 93 → None ≡ label (drop before source)
-      → None ≡ target_between defined (slice_range source behind at)
-  no-label defined behind place within byte low stands h =
-      sym (no_label_between defined (slice_range source behind at) (drop (at + 1) source) None (ap label (sym (between-brackets behind place within byte low stands)) ∙ sym h) tt)
+  pub no-label : (defined : Defined) (beyond : ℕ) → beyond ≡ before + 1 → before < length source → get_or source before 0 ≡ 91 → beyond ≤ at → Stands source at 93 → None ≡ label (drop before source)
+      → None ≡ target_between defined (slice_range source beyond at)
+  no-label defined beyond place within byte low stands h =
+      sym (no_label_between defined (slice_range source beyond at) (drop (at + 1) source) None (ap label (sym (between-brackets beyond place within byte low stands)) ∙ sym h) tt)
 
-  pub other-label : (defined : Defined) (behind end : ℕ) (inside : List ℕ) → behind ≡ before + 1 → before < length source → get_or source before 0 ≡ 91 → behind ≤ at → Stands source at 93
+  pub other-label : (defined : Defined) (beyond end : ℕ) (inside : List ℕ) → beyond ≡ before + 1 → before < length source → get_or source before 0 ≡ 91 → beyond ≤ at → Stands source at 93
       → Some (record { text = inside; rest = drop end source }) ≡ label (drop before source) → end ≤ length source → end ≢ at + 1
-      → None ≡ target_between defined (slice_range source behind at)
-  other-label defined behind end inside place within byte low stands h short other =
-      sym (no_label_between defined (slice_range source behind at) (drop (at + 1) source) (Some (record { text = inside; rest = drop end source }))
-      (ap label (sym (between-brackets behind place within byte low stands)) ∙ sym h)
+      → None ≡ target_between defined (slice_range source beyond at)
+  other-label defined beyond end inside place within byte low stands h short other =
+      sym (no_label_between defined (slice_range source beyond at) (drop (at + 1) source) (Some (record { text = inside; rest = drop end source }))
+      (ap label (sym (between-brackets beyond place within byte low stands)) ∙ sym h)
       (λ same. other (omega (arith, same, short, stands.within, length-drop end source, length-drop (at + 1) source))))
 
-  pub this-label : (defined : Defined) (behind end : ℕ) (inside : List ℕ) → behind ≡ before + 1 → before < length source → get_or source before 0 ≡ 91 → behind ≤ at → Stands source at 93
+  pub this-label : (defined : Defined) (beyond end : ℕ) (inside : List ℕ) → beyond ≡ before + 1 → before < length source → get_or source before 0 ≡ 91 → beyond ≤ at → Stands source at 93
       → Some (record { text = inside; rest = drop end source }) ≡ label (drop before source) → end ≡ at + 1
-      → target_of defined inside ≡ target_between defined (slice_range source behind at)
-  this-label defined behind end inside place within byte low stands h same =
-      let found = label_between defined (slice_range source behind at) (drop (at + 1) source) (record { text = inside; rest = drop end source })
-      (ap label (sym (between-brackets behind place within byte low stands)) ∙ sym h) (ap (λ n. length (drop n source)) same) in
+      → target_of defined inside ≡ target_between defined (slice_range source beyond at)
+  this-label defined beyond end inside place within byte low stands h same =
+      let found = label_between defined (slice_range source beyond at) (drop (at + 1) source) (record { text = inside; rest = drop end source })
+      (ap label (sym (between-brackets beyond place within byte low stands)) ∙ sym h) (ap (λ n. length (drop n source)) same) in
       ap (target_of defined) found.0 ∙ sym found.1
 
 -- the end of a reference by the number of its definition, whose address the rules follow
@@ -190,22 +191,22 @@ turned leaf r a b e h = subst (λ x. IfOk r (λ found. ends_of leaf found ≡ x)
 
 module _ (rules : Rules) (leaf : Leaf) where
   -- an end that was found ends after the right bracket
-  pub ends-behind : (at : ℕ) (between : List ℕ) (e : LinkEnd) → at < length leaf.source.now → ends_of leaf (Some e) ≡ end_at rules (defined_by leaf) between (drop (at + 1) leaf.source.now)
+  pub ends-beyond : (at : ℕ) (between : List ℕ) (e : LinkEnd) → at < length leaf.source.now → ends_of leaf (Some e) ≡ end_at rules (defined_by leaf) between (drop (at + 1) leaf.source.now)
       → IsCharBoundary leaf.source.now e.end → at < e.end
-  ends-behind at between e within h boundary =
+  ends-beyond at between e within h boundary =
       let source = leaf.source.now in
       let target = target_in source leaf.definitions.now e.target in
       let left = end_at-end rules (defined_by leaf) between (drop (at + 1) source) (record { dest = target.0; title = target.1; rest = drop e.end source }) (sym h) in
       omega (arith, within, boundary.0, ap length left.is, length-append left.front (drop e.end source), length-drop (at + 1) source, length-drop e.end source)
 
-  -- an end that was found, if one was, is behind the right bracket
+  -- an end that was found, if one was, is after the right bracket
   pub placed : {E : Type 0} (at : ℕ) (between : List ℕ) (r : Result (Option LinkEnd) E) → at < length leaf.source.now
       → IfOk r (λ found. ends_of leaf found ≡ end_at rules (defined_by leaf) between (drop (at + 1) leaf.source.now)) → IfOk r (λ found. IfSome found (IsPlaced leaf))
       → IfOk r (λ found. IfSome found (λ e. (at < e.end) × IsPlaced leaf e))
-  placed at between r within h place = grind (arith, nat_tests, ends-behind)
+  placed at between r within h place = grind (arith, nat_tests, ends-beyond)
 
   abbrev first_of : List ℕ → List ℕ → Option brackets.LinkEnd → Option brackets.LinkEnd
-  first_of between text o = elim o [ Some end ↦ Some end | None ↦ end_if_followed rules (reference_end (defined_by leaf) between text) ]
+  first_of between text o = o <|> end_if_followed rules (reference_end (defined_by leaf) between text)
 
   -- an inline link's end goes first
   pub inline-first : (between text : List ℕ) (found : Option LinkEnd) (e : LinkEnd) → found ≡ Some e → ends_of leaf found ≡ end_if_followed rules (inline_end text)
@@ -221,4 +222,4 @@ module _ (rules : Rules) (leaf : Leaf) where
 -- an end by whether the rules follow where it leads
 module _ (rules : Rules) (end : brackets.LinkEnd) where
   pub end-followed : is_followed rules end.dest ≡ true → Some end ≡ end_if_followed rules (Some end)
-  end-followed on = sym (ap (λ (t : Bool). elim t as (λ _. Option brackets.LinkEnd) [ true ↦ Some end | false ↦ None ]) on)
+  end-followed on = sym (ap (λ (t : Bool). given t end) on)

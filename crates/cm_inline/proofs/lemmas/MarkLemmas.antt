@@ -6,10 +6,12 @@ use Rattle.cm_inline.proofs.lemmas.Words.{nat_tests, ◌==◌}
 use Rattle.std.proofs.lemmas.List.{append-nil, take-map, get_or-drop, drop-map}
 use Rattle.cm_tree.specs.declared.tree.Inline.TheVariants as inlines
 use Rattle.cm_tree.specs.declared.tree.Inline.TheVariants.{outs-Text, outs-Code, outs-Html, outs-Link, outs-Hard}
-use Rattle.cm_html.specs.Html.{code_span_html, link_html}
+use Rattle.cm_html.specs.Html.{link_html}
+use Rattle.cm_html.specs.steps.HtmlParts.{code_span_html}
 use Rattle.cm_inline.specs.declared.marks.Kind.TheVariants as kinds
 use Rattle.cm_inline.specs.declared.runs.Run as held
-use Rattle.cm_inline.specs.declared.runs.Pair as made
+use Rattle.cm_inline.specs.declared.pairing.Pair as made
+use Rattle.cm_inline.specs.steps.pairing.States.{run_at}
 use Rattle.cm_inline.specs.steps.pairing.Events.{LinkTag}
 use Rattle.cm_inline.specs.steps.pairing.Parts.{Pair, chain, ends, run_events, part_events}
 use Rattle.cm_inline.specs.steps.pairing.Readings.{start_html, end_html, Tags, Alternative, is_number, mode_of, page, write_all}
@@ -27,13 +29,13 @@ Wrote source targets reader mark html new = write_all (page html Tags) (mark_eve
 
 abbrev WroteKind : List ℕ → Targets → Reader → Mark → (html new : List ℕ) → Kind → Type 0
 WroteKind source targets reader mark html new kind =
-    write_all (page html Tags) (part_events (runs_in reader.runs.runs.items) (pairs_in reader.runs.pairs.items) (part_of_kind source targets reader.links.items mark.at mark.end kind)) ≡ page new (mode_after reader.links.items kind)
+    write_all (page html Tags) (part_events (runs_in reader.runs.list.runs) (pairs_in reader.runs.pairs.items) (part_of_kind source targets reader.links.items mark.at mark.end kind)) ≡ page new (mode_after reader.links.items kind)
 
 of-kind : (source : List ℕ) (targets : Targets) (reader : Reader) (mark : Mark) (html new : List ℕ) (kind : Kind) → mark.kind ≡ kind → WroteKind source targets reader mark html new kind → Wrote source targets reader mark html new
 of-kind source targets reader mark html new kind is h = subst (WroteKind source targets reader mark html new) (sym is) h
 
-known : (source : List ℕ) (targets : Targets) (reader : Reader) (mark : Mark) (kind : Kind) → mark.kind ≡ kind → IsMarkIn source targets reader mark → IsOfKind source targets reader.runs.runs.items reader.links.items mark.at mark.end kind
-known source targets reader mark kind is m = subst (IsOfKind source targets reader.runs.runs.items reader.links.items mark.at mark.end) is m.kind
+known : (source : List ℕ) (targets : Targets) (reader : Reader) (mark : Mark) (kind : Kind) → mark.kind ≡ kind → IsMarkIn source targets reader mark → IsOfKind source targets reader.runs.list.runs reader.links.items mark.at mark.end kind
+known source targets reader mark kind is m = subst (IsOfKind source targets reader.runs.list.runs reader.links.items mark.at mark.end) is m.kind
 
 tags : (html new text : List ℕ) → new ≡ html ++ text → page (html ++ text) Tags ≡ page new Tags
 tags html new text e = ap (λ h. page h Tags) (sym e)
@@ -148,7 +150,7 @@ tags-end source targets reader mark html new number link is m read e =
 
 -- a mark that is written as the text that is there
 
-pub numbered : (source : List ℕ) (targets : Targets) (reader : Reader) (mark : Mark) → IsMarkIn source targets reader mark → IsNumbered reader.runs.runs.items mark.kind
+pub numbered : (source : List ℕ) (targets : Targets) (reader : Reader) (mark : Mark) → IsMarkIn source targets reader mark → IsNumbered reader.runs.list.runs mark.kind
 numbered source targets reader mark m = search rules
 
 pub linked : (source : List ℕ) (targets : Targets) (reader : Reader) (mark : Mark) → IsMarkIn source targets reader mark → IsLinked reader.links.items mark.kind
@@ -158,7 +160,7 @@ linked source targets reader mark m = search rules
 
 abbrev AltKind : List ℕ → Targets → Reader → Mark → (link : ℕ) → (html new : List ℕ) → Kind → Type 0
 AltKind source targets reader mark link html new kind =
-    write_all (page html (Alternative link)) (part_events (runs_in reader.runs.runs.items) (pairs_in reader.runs.pairs.items) (part_of_kind source targets reader.links.items mark.at mark.end kind)) ≡ page new (Alternative link)
+    write_all (page html (Alternative link)) (part_events (runs_in reader.runs.list.runs) (pairs_in reader.runs.pairs.items) (part_of_kind source targets reader.links.items mark.at mark.end kind)) ≡ page new (Alternative link)
 
 alt-of : (source : List ℕ) (targets : Targets) (reader : Reader) (mark : Mark) (link : ℕ) (html new : List ℕ) (kind : Kind) → mark.kind ≡ kind → AltKind source targets reader mark link html new kind
     → Adds (Alternative link) html (mark_events source targets reader mark) new
@@ -265,5 +267,5 @@ unfolding write_all
 run-alternative link html ps number r = search (rules, write-append, take-map, drop-map, ends-alternative, run-html, chain-alternative)
 
 pub alt-run : (source : List ℕ) (targets : Targets) (reader : Reader) (mark : Mark) (link : ℕ) (html new : List ℕ) (number : ℕ) (run : held.Run) → mark.kind ≡ kinds.Run number → IsMarkIn source targets reader mark
-    → run ≡ get_or reader.runs.runs.items number run → new ≡ html ++ replicate run.run.left (byte_of run.run.marker) → Adds (Alternative link) html (mark_events source targets reader mark) new
+    → run ≡ run_at reader.runs.list.runs number → new ≡ html ++ replicate run.run.left (byte_of run.run.marker) → Adds (Alternative link) html (mark_events source targets reader mark) new
 alt-run source targets reader mark link html new number run is m of e = search (rules, known, get_or-map, alt-of, run-alternative)

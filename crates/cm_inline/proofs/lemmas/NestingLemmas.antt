@@ -1,13 +1,13 @@
 -- How deep events nest, one after another.
-use Rattle.cm_inline.proofs.lemmas.Words.{◌≡◌, ℕ, ◌+◌, ◌-◌, ◌^◌, ◌<◌, ◌≤◌, ◌==◌, Bool, true, false, cond, max, List, [], ◌∷◌, ◌++◌, length, drop, get_or, Some, None}
-use Rattle.cm_inline.proofs.lemmas.Words.{refl, sym, ap, subst, ◌∙◌, arith, slice_range, eqb-false, drop_more, drop_all, length-take, get_or_read, Targets, depth_of}
+use Rattle.cm_inline.proofs.lemmas.Words.{◌≡◌, ℕ, ◌+◌, ◌-◌, ◌^◌, ◌<◌, ◌≤◌, ◌==◌, Bool, true, false, cond, max, List, [], ◌∷◌, ◌++◌, length, drop, Some, None}
+use Rattle.cm_inline.proofs.lemmas.Words.{refl, sym, ap, subst, ◌∙◌, arith, slice_range, eqb-false, drop_more, drop_all, length-take, Targets, depth_of}
 use Rattle.cm_inline.proofs.lemmas.Words.{Reader, Kind, Mark, rules}
 use Rattle.std.proofs.lemmas.List.{append-nil, length-drop}
 use Rattle.cm_tree.specs.declared.tree.Inline.TheVariants as inlines
 use Rattle.cm_inline.specs.declared.marks.Kind.TheVariants as kinds
 use Rattle.cm_inline.specs.declared.nesting.Level.{Level}
 use Rattle.cm_inline.specs.declared.runs.Run as held
-use Rattle.cm_inline.specs.declared.runs.Pair as made
+use Rattle.cm_inline.specs.declared.pairing.Pair as made
 use Rattle.cm_inline.specs.steps.pairing.Events.{Event, Text, Rest, Whole, Tag, Strikethrough, Start, End}
 use Rattle.cm_inline.specs.steps.pairing.Parts.{Pair, PairedRun, starts, ends, run_events, part_events, events_of}
 use Rattle.cm_inline.specs.steps.pairing.Readings.{deepest}
@@ -71,14 +71,17 @@ unfolding rise_all
 run-rises bound l pairs number r to can = search (rules, length-drop, length-take, can-append, ends-fall, rise-append)
 
 -- the same of the run that was read
-pub run-rises-at : (bound : ℕ) (l : Level) (runs : List held.Run) (pairs : List made.Pair) (number : ℕ) (r : held.Run) → number < length runs → r ≡ get_or runs number r → AreChained (runs_in runs) (pairs_in pairs)
+pub run-rises-at : (bound : ℕ) (l : Level) (runs : List held.Run) (pairs : List made.Pair) (number : ℕ) (r : held.Run) → number < length runs → r ≡ run_at runs number → AreChained (runs_in runs) (pairs_in pairs)
     → CanRiseAll bound l (run_events (pairs_in pairs) number (paired_run (run_at runs number))) → RunRisesAt bound l pairs number (run_at runs number) r
-run-rises-at bound l runs pairs number r low read chained can = search (rules, get_or_read, run-known, run-rises, length-pairs)
+run-rises-at bound l runs pairs number r low read chained can =
+    let known = run-known runs pairs number r low read chained in
+    let rises = run-rises bound l (pairs_in pairs) number r (omega (arith, known.to, length-pairs pairs)) (subst (λ s. CanRiseAll bound l (run_events (pairs_in pairs) number (paired_run s))) (sym read) can) in
+    record { holds = rises.holds; starts_rise = rises.starts_rise; is = ap (λ s. rise_all l (run_events (pairs_in pairs) number (paired_run s))) (sym read) ∙ rises.is }
 
 -- one mark
 
 abbrev kind_events : List ℕ → Targets → Reader → Mark → Kind → List Event
-kind_events source targets reader mark kind = part_events (runs_in reader.runs.runs.items) (pairs_in reader.runs.pairs.items) (part_of_kind source targets reader.links.items mark.at mark.end kind)
+kind_events source targets reader mark kind = part_events (runs_in reader.runs.list.runs) (pairs_in reader.runs.pairs.items) (part_of_kind source targets reader.links.items mark.at mark.end kind)
 
 of-kind : (source : List ℕ) (targets : Targets) (reader : Reader) (mark : Mark) (l new : Level) (kind : Kind) → mark.kind ≡ kind → new ≡ rise_all l (kind_events source targets reader mark kind) → new ≡ rise_all l (mark_events source targets reader mark)
 of-kind source targets reader mark l new kind is h = subst (λ k. new ≡ rise_all l (kind_events source targets reader mark k)) (sym is) h
@@ -176,14 +179,14 @@ pub record NestsAt (source : List ℕ) (targets : Targets) (reader : Reader) (bo
   pub can : CanRiseAll bound l (mark_events source targets reader mark)
 
 next-laid : (lines : Bool) (source : List ℕ) (targets : Targets) (reader : Reader) (depth at : ℕ) (l : Level) → at < length reader.marks.items → (n : NestsFrom lines source targets reader depth at l)
-    → AreLaid lines source targets reader.runs.runs.items reader.links.items n.from (length source) (mark_numbered reader.marks.items at ∷ drop (at + 1) reader.marks.items)
-next-laid lines source targets reader depth at l h n = subst (AreLaid lines source targets reader.runs.runs.items reader.links.items n.from (length source)) (drop_more reader.marks.items at no_mark h) n.laid
+    → AreLaid lines source targets reader.runs.list.runs reader.links.items n.from (length source) (mark_numbered reader.marks.items at ∷ drop (at + 1) reader.marks.items)
+next-laid lines source targets reader depth at l h n = subst (AreLaid lines source targets reader.runs.list.runs reader.links.items n.from (length source)) (drop_more reader.marks.items at no_mark h) n.laid
 
 next-deepest : (lines : Bool) (source : List ℕ) (targets : Targets) (reader : Reader) (depth at : ℕ) (l : Level) → at < length reader.marks.items → NestsFrom lines source targets reader depth at l
     → (let m = mark_numbered reader.marks.items at in deepest l.now l.most (mark_events source targets reader m ++ events_from source targets reader m.end (drop (at + 1) reader.marks.items)) ≡ Some depth)
 next-deepest lines source targets reader depth at l h n = search (rules, texts-flat, events-next, drop_more)
 
-pub nests-at : (lines : Bool) (source : List ℕ) (targets : Targets) (reader : Reader) (bound depth at : ℕ) (l : Level) (mark : Mark) → at < length reader.marks.items → mark ≡ mark_numbered reader.marks.items at → AreChained (runs_in reader.runs.runs.items) (pairs_in reader.runs.pairs.items)
+pub nests-at : (lines : Bool) (source : List ℕ) (targets : Targets) (reader : Reader) (bound depth at : ℕ) (l : Level) (mark : Mark) → at < length reader.marks.items → mark ≡ mark_numbered reader.marks.items at → AreChained (runs_in reader.runs.list.runs) (pairs_in reader.runs.pairs.items)
     → depth < bound → NestsFrom lines source targets reader depth at l → NestsAt source targets reader bound l mark
 nests-at lines source targets reader bound depth at l mark h is chained low n =
     let m = mark_numbered reader.marks.items at in
@@ -204,9 +207,9 @@ pub nests-last : (lines : Bool) (source : List ℕ) (targets : Targets) (reader 
 unfolding deepest
 nests-last lines source targets reader depth at l h n =
     let text = slice_range source n.from (length source) in
-    let events = events_of (runs_in reader.runs.runs.items) (pairs_in reader.runs.pairs.items) (texts text) in
+    let events = events_of (runs_in reader.runs.list.runs) (pairs_in reader.runs.pairs.items) (texts text) in
     let whole : deepest l.now l.most [] ≡ Some depth =
-    sym (texts-flat (runs_in reader.runs.runs.items) (pairs_in reader.runs.pairs.items) l.now l.most text [] n.high) ∙ ap (deepest l.now l.most) (append-nil events ∙ sym (events-last source targets reader n.from))
+    sym (texts-flat (runs_in reader.runs.list.runs) (pairs_in reader.runs.pairs.items) l.now l.most text [] n.high) ∙ ap (deepest l.now l.most) (append-nil events ∙ sym (events-last source targets reader n.from))
     ∙ ap (λ t. deepest l.now l.most (events_from source targets reader n.from t)) (sym (drop_all at reader.marks.items h)) ∙ n.rest in
     (elim (l.now == 0) as (λ b. cond b (Some l.most) None ≡ Some depth → l.most ≡ depth) [ true ↦ λ e. cc e | false ↦ λ e. absurd (cc e) ]) whole
 

@@ -1,4 +1,4 @@
--- Open brackets among segments, with more behind them.
+-- Open brackets among segments, with more after them.
 use Rattle.cm_inline.proofs.lemmas.Words.{◌≡◌, ℕ, ◌<◌, ◌≤◌, Bool, true, false, ◌||◌, List, [], ◌∷◌, ◌++◌, length, refl, sym, ap, subst, ◌∙◌, arith, append_assoc}
 use Rattle.cm_inline.proofs.lemmas.Words.{length-append, nat_lt, nat_tests, Item, is_linked, holds_link, Bracket, Link, Mark, Plain, HeldRun, rules}
 use Rattle.cm_inline.specs.steps.pairing.Segments.{Segment, Waiting, Made, items_in, parts_in, all_parts, numbers_in}
@@ -44,7 +44,7 @@ neither u v e f = ap (λ u. u || v) e ∙ f
 pub closed-join : (leaf : MarkedLeaf) (from mid to : ℕ) (xs ys : List Segment) (ms ns : List Mark) → AreClosed leaf from mid xs ms → AreClosed leaf mid to ys ns → AreClosed leaf from to (xs ++ ys) (ms ++ ns)
 closed-join leaf from mid to xs ys ms ns h g = search (rules, all_parts-append, parts-join, laid-join, items-append, opener-append, neither)
 
--- Closed segments go behind open brackets.
+-- Closed segments go after open brackets.
 pub open-more : (leaf : MarkedLeaf) (bs : List Bracket) (xs ys : List Segment) (ms ns : List Mark) (mid to : ℕ) (linked : Bool) → AreOpen leaf bs xs ms mid (holds_link (items_in ys) || linked) → AreClosed leaf mid to ys ns
     → AreOpen leaf bs (xs ++ ys) (ms ++ ns) to linked
 open-more leaf [] xs ys ms ns mid to linked h g = closed-join leaf 0 mid to xs ys ms ns h g
@@ -86,7 +86,7 @@ below-end n end h = grind (arith, nat_tests, h)
 or-true : (v : Bool) → v || true ≡ true
 or-true v = grind (arith, nat_tests)
 
--- A link ends behind them all.
+-- A link ends after them all.
 pub open-linked : (leaf : MarkedLeaf) (runs : List HeldRun) (more : List Link) (links_end : ℕ) (bs : List Bracket) (xs : List Segment) (ms : List Mark) (to : ℕ) (linked : Bool) → Later leaf.runs runs → length ms ≤ links_end → AreOpen leaf bs xs ms to linked
     → AreOpen (later_leaf leaf runs more links_end) bs xs ms to true
 open-linked leaf runs more links_end [] xs ms to linked later high h = closed-later leaf runs more links_end 0 to xs ms later h

@@ -37,7 +37,7 @@ stands-depth fs items s =
     let depth : inlines_depth (settled items) ≡ max 0 (0 + items_depth items) = cc same in
     omega (arith, depth, s.near.bound)
 
-pub stands-nests : (lines : Bool) (source : List ℕ) (targets : Targets) (reader : Reader) (items : List Item) → AreLaid lines source targets reader.runs.runs.items reader.links.items 0 (length source) reader.marks.items
-    → AreChained (runs_in reader.runs.runs.items) (pairs_in reader.runs.pairs.items) → starts_in (events_in source targets reader) ≤ length reader.runs.pairs.items + length reader.links.items → StandFor (events_in source targets reader) items
+pub stands-nests : (lines : Bool) (source : List ℕ) (targets : Targets) (reader : Reader) (items : List Item) → AreLaid lines source targets reader.runs.list.runs reader.links.items 0 (length source) reader.marks.items
+    → AreChained (runs_in reader.runs.list.runs) (pairs_in reader.runs.pairs.items) → starts_in (events_in source targets reader) ≤ length reader.runs.pairs.items + length reader.links.items → StandFor (events_in source targets reader) items
     → NestsTo lines source targets reader (inlines_depth (settled items))
 stands-nests lines source targets reader items laid chained few s = search (rules, nests-all, stands-depth)

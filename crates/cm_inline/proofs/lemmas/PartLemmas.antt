@@ -1,4 +1,4 @@
--- What the code writes for a pair is a start behind what is left of its opener.
+-- What the code writes for a pair is a start after what is left of its opener.
 use Rattle.cm_inline.proofs.lemmas.Words.{◌≡◌, ℕ, suc, ◌+◌, ◌<◌, ◌≤◌, ◌==◌, List, [], ◌∷◌, ◌++◌, length, take, drop, reverse, get_or, refl, sym, ap, subst, ◌∙◌, arith}
 use Rattle.cm_inline.proofs.lemmas.Words.{append_assoc, reverse-append, map-append, take-append-le, drop-append-le, length-reverse, get_or-set_same, get_or-set_other}
 use Rattle.cm_inline.proofs.lemmas.Words.{cond-true, cond-false, eq-eqb, ne_eqb, eqb-true, Run, Item, used, rules, nat_tests}
@@ -138,7 +138,7 @@ pub open-once : (low number count : ℕ) (tag : Tag) (r : Run) (front back : Lis
 unfolding open_at
 open-once low number count tag r front back h = search (rules, rising-once, open-append, open-absent, cond-true, eq-eqb)
 
--- So what the code writes for a pair of a closer, whose ends from a pair on stand behind the parts, is what the pair makes of the events.
+-- So what the code writes for a pair of a closer, whose ends from a pair on stand after the parts, is what the pair makes of the events.
 pub pair-events-written : (c : Run) (e : Entry) (below : List Entry) (items : List Item) (runs : List PairedRun) (pairs : List Pair) (parts : List Part) (first : ℕ) → AreParts runs pairs parts → first ≤ length pairs
     → (f : Found c e below (events_of runs pairs parts ++ ends (drop first pairs)) items) → Rising 0 (events_of runs pairs parts ++ ends (drop first pairs))
     → (let tag = tag_of c.character (used e.run c) in events_of (with_opened e.place (used e.run c) runs pairs) (with_pair tag e.place runs pairs) parts ++ ends (drop first (with_pair tag e.place runs pairs)))

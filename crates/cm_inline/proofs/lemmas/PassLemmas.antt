@@ -1,8 +1,8 @@
 -- What a pass begins with, and numbers that rise from one part to the next.
 use Rattle.cm_inline.proofs.lemmas.Words.{◌≡◌, ℕ, suc, ◌≤◌, false, List, [], ◌∷◌, ◌++◌, length, take, drop, get_or, refl, arith, sum_by-cons, Item, passed, rules}
 use Rattle.cm_inline.proofs.lemmas.Words.{nat_tests}
+use Rattle.cm_inline.specs.steps.Searching.{spent, zeros}
 use Rattle.cm_inline.specs.steps.Entries.{above, reserve}
-use Rattle.cm_inline.specs.steps.Openers.{spent, zeros}
 use Rattle.cm_inline.specs.steps.pairing.ClosingRuns.{AreUnder, State, PartsHold}
 use Rattle.cm_inline.specs.steps.pairing.Events.{Event, Rest}
 use Rattle.cm_inline.specs.steps.pairing.Parts.{Pair, PairedRun, Part, Numbered, Known, ends, events_of, Rising}
@@ -12,8 +12,8 @@ use Rattle.cm_inline.proofs.lemmas.ClosingLemmas.{AreLow, rising-front, drop-all
 use Rattle.cm_inline.proofs.lemmas.ReadingLemmas.{reads-none}
 use Rattle.cm_inline.proofs.lemmas.SegmentLemmas.{waits-raised}
 
-pub rising-behind-of : (low : ℕ) (fs gs : List Event) → Rising low (fs ++ gs) → Rising low gs
-rising-behind-of low fs gs h = go fs low h
+pub rising-beyond-of : (low : ℕ) (fs gs : List Event) → Rising low (fs ++ gs) → Rising low gs
+rising-beyond-of low fs gs h = go fs low h
   where
     lower : (n m : ℕ) (gs : List Event) → n ≤ m → Rising m gs → Rising n gs
     lower n m [] p h = tt

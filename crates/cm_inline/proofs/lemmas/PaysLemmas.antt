@@ -5,7 +5,7 @@ use Rattle.cm_inline.proofs.lemmas.Words.{same_Some, Rules, Atom, markup_atom, a
 use Rattle.std.proofs.lemmas.List.{append-nil}
 use Rattle.cm_scan.specs.inlines.Pairing as items
 use Rattle.cm_scan.specs.inlines.DelimiterRuns.{run_in, runs_after, runs_of, characters_of}
-use Rattle.cm_scan.proofs.lemmas.inlines.DelimiterRuns.{runs-go-on, runs-behind-text, runs-in-pieces, runs_are_few}
+use Rattle.cm_scan.proofs.lemmas.inlines.DelimiterRuns.{runs-go-on, runs-beyond-text, runs-in-pieces, runs_are_few}
 use Rattle.cm_inline.specs.Closers.{all_kinds, kinds_with, kinds_by}
 use Rattle.cm_inline.specs.Reading.{looks_at_most}
 use Rattle.cm_inline.specs.steps.Brackets.{closed_at}
@@ -25,7 +25,7 @@ step-counts rules defined source so_far more at end within further gives =
     let before = reverse (take at source) in
     let items = reverse so_far in
     let taken = slice_range source (at + 1) end in
-    let behind : drop (at + 1) source ≡ taken ++ drop end source = slice-front source (at + 1) end (omega (arith, further)) in
+    let beyond : drop (at + 1) source ≡ taken ++ drop end source = slice-front source (at + 1) end (omega (arith, further)) in
     let own = run_in (atom_in rules source at).atom in
     grind (arith, nat_tests, drop_more, runs-go-on, step_at, before-one, sum_by-append)
 
@@ -37,7 +37,7 @@ text-on rules defined source so_far at end is =
     let back = reverse so_far in
     ap characters_of (sym (
     ap (λ t. runs_after rules defined zero before t back) (slice-front source at end is.low)
-    ∙ runs-behind-text rules defined before text (drop end source) back is.plain is.spaces
+    ∙ runs-beyond-text rules defined before text (drop end source) back is.plain is.spaces
     ∙ ap (λ p. runs_after rules defined zero p (drop end source) (reverse (one_by_one text) ++ back)) (sym (before-later source at end is.low))
     ∙ runs-in-pieces rules defined zero (reverse (take end source)) (drop end source) (reverse (one_by_one text) ++ back) (reverse (so_far ++ items.Characters (slice_range source at end) ∷ [])) (text-pieces source so_far at end)
     ))

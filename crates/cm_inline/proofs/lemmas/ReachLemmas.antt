@@ -8,7 +8,7 @@ use Rattle.cm_inline.specs.steps.pairing.Readings.{StandFor, starts_in}
 use Rattle.cm_inline.specs.steps.pairing.Segments.{Segment, Waiting, Made, parts_in, items_in, all_parts, numbers_in, fresh, AreSegments}
 use Rattle.cm_inline.specs.steps.pairing.States.{no_run, run_at, IsFresh, Grows}
 use Rattle.cm_inline.specs.steps.Depths.{items_depth}
-use Rattle.cm_inline.specs.steps.Openers.{spent}
+use Rattle.cm_inline.specs.steps.Searching.{spent}
 use Rattle.cm_inline.specs.steps.Pairs.{items_emphases, allowed, allowance, AreOf, AreLooks}
 use Rattle.cm_inline.specs.steps.Runs.{paired_run, run_of, runs_in}
 use Rattle.cm_inline.proofs.lemmas.ClosingLemmas.{low-parts}

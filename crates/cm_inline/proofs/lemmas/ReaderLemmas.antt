@@ -29,7 +29,7 @@ use Rattle.cm_inline.proofs.lemmas.ReadingLemmas.{starts-append}
 use Rattle.cm_inline.proofs.lemmas.SliceLemmas.{slice-none}
 use Rattle.cm_inline.specs.steps.Searching.{IsMarked}
 use Rattle.cm_inline.proofs.lemmas.StandLemmas.{events-more, text-stands, cut-stands, opener-stands, inline-stands, known-made, texts-known, texts-stand, stays-any, AreKnown, runs-append}
-use Rattle.cm_inline.proofs.lemmas.CallerLemmas.{behind-append, segments-append, segments-push, chained-none, chained-push}
+use Rattle.cm_inline.proofs.lemmas.CallerLemmas.{beyond-append, segments-append, segments-push, chained-none, chained-push}
 use Rattle.cm_inline.proofs.lemmas.WholeLemmas.{ahead-start, ahead-text, ahead-atom}
 use Rattle.cm_inline.proofs.lemmas.LaidLemmas.{events-append}
 use Rattle.cm_inline.proofs.lemmas.KeptLemmas.{segments-parts}
@@ -53,12 +53,12 @@ fresh-read source targets lines ends short utf8 knows =
 
 -- Nothing is read yet.
 pub nothing-read : (rules : Rules) (source : List ℕ) (targets : Targets) (reader : Reader) (lines : Bool) → length source < 2 ^ 32 → IsUtf8 source → view_of reader ≡ fresh_view lines reader.ends → reader.brackets.items ≡ []
-    → reader.runs.openers.looks ≡ 0 → Knows source reader.ends → Reading rules source targets 0 reader
+    → reader.runs.list.looks ≡ 0 → Knows source reader.ends → Reading rules source targets 0 reader
 unfolding items_in
 nothing-read rules source targets reader lines short utf8 fresh brackets looks knows = search (
   (subst (λ bs. IsRead source targets 0 (view_of reader) (reverse bs) []) (sym brackets) (subst (λ v. IsRead source targets 0 v [] []) (sym fresh) (fresh-read source targets lines reader.ends short utf8 knows))),
   (ahead-start rules (defined_in targets) source),
-  (nothing-pays rules (defined_in targets) source [] reader.runs.openers.looks refl looks),
+  (nothing-pays rules (defined_in targets) source [] reader.runs.list.looks refl looks),
 )
 
 -- starts among texts
@@ -96,7 +96,7 @@ module _ (source : List ℕ) (targets : Targets) (v : View) (bs : List Bracket) 
 
   pub made-read : (now : List Bracket) (marks : List Mark) → AreOpen (leaf_of source targets v) now (segments ++ more) (v.marks ++ marks) end false → IsRead source targets end (more_view v marks ends) now (segments ++ more)
   unfolding all_parts numbers_in number_after
-  made-read now marks are = grind (arith, nat_tests, segments-append, known-made, runs-append, append-nil, numbers-append, length-append, behind-append, starts-more)
+  made-read now marks are = grind (arith, nat_tests, segments-append, known-made, runs-append, append-nil, numbers-append, length-append, beyond-append, starts-more)
 
 pub more-read : (source : List ℕ) (targets : Targets) (v : View) (bs : List Bracket) (segments : List Segment) (at end : ℕ) (marks : List Mark) (parts : List Part) (item : Item) (ends : MissingEnds) → AreMore source targets v at end marks parts item → Knows source ends
     → IsRead source targets at v bs segments → IsRead source targets end (more_view v marks ends) bs (segments ++ Made parts item (number_after 0 segments) ∷ [])
@@ -246,7 +246,7 @@ text-goes rules source targets at end reader is g = go (nat_lt at end) refl
     defined = defined_in targets
 
     looks : ℕ
-    looks = reader.runs.openers.looks
+    looks = reader.runs.list.looks
 
     by : (some : Bool) → nat_lt at end ≡ some → (more : List Segment) → items_in more ≡ items_in g.segments ++ (if some then Characters (slice_range source at end) ∷ [] else []) → IsReadTo source targets end reader more → Reading rules source targets end reader
     by some e more same read =
@@ -320,7 +320,7 @@ module _ (source : List ℕ) (targets : Targets) (v : View) (bs : List Bracket) 
 
   pub run-read : IsRead source targets end with_run bs (segments ++ one_run)
   unfolding numbers_in number_after
-  run-read = grind (arith, nat_tests, run-open, length-map, runs-are, segments-push, runs-append, marker-marked, numbers-append, chained-push, length-append, behind-append, run-starts)
+  run-read = grind (arith, nat_tests, run-open, length-map, runs-are, segments-push, runs-append, marker-marked, numbers-append, chained-push, length-append, beyond-append, run-starts)
 
 -- A bracket more, which is open.
 abbrev pub bracket_view : View → (at end : ℕ) → MissingEnds → View
@@ -423,12 +423,12 @@ put-goes rules source targets at end old new within p g =
     same-view (view_of new) (put_view v source at end p.atom new.ends) p.lines p.marks p.runs p.waiting (ap (λ x. x.items) p.pairs) (ap (λ x. x.items) p.links) p.links_end refl in
     let brackets : reverse new.brackets.items ≡ reverse more ++ bs = ap reverse p.brackets ∙ reverse-append old.brackets.items more in
     let items = read.items in
-    let looks : new.runs.openers.looks ≡ old.runs.openers.looks = ap (λ o. o.looks) p.openers in
+    let looks : new.runs.list.looks ≡ old.runs.list.looks = p.looks in
     search (
       (subst (λ b. IsRead source targets end (view_of new) b (g.segments ++ read.more)) (sym brackets)
           (subst (λ w. IsRead source targets end w (reverse more ++ bs) (g.segments ++ read.more)) (sym view) read.read)),
       (ap (λ t. ahead rules (defined_in targets) source t end) items ∙ ahead-atom rules (defined_in targets) source (items_in g.segments) at (item_in source at end p.atom) end within is ∙ g.goes),
       (subst (λ n. Pays rules (defined_in targets) source (items_in (g.segments ++ read.more)) end n) (sym looks)
-          (subst (λ t. Pays rules (defined_in targets) source t end old.runs.openers.looks) (sym items)
-          (atom-more-pays rules (defined_in targets) source (items_in g.segments) at (item_in source at end p.atom) end old.runs.openers.looks within is g.pays))),
+          (subst (λ t. Pays rules (defined_in targets) source t end old.runs.list.looks) (sym items)
+          (atom-more-pays rules (defined_in targets) source (items_in g.segments) at (item_in source at end p.atom) end old.runs.list.looks within is g.pays))),
     )

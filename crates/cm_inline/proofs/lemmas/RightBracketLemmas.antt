@@ -15,7 +15,7 @@ use Rattle.cm_inline.specs.steps.Pairs.{Keeps}
 use Rattle.cm_inline.specs.steps.Reads.{Stands}
 use Rattle.cm_inline.specs.steps.Runs.{runs_in, pairs_in}
 use Rattle.cm_inline.proofs.lemmas.BracketLemmas.{closes-nothing, closes-opener, left_as_text, closed_or}
-use Rattle.cm_inline.proofs.lemmas.CallerLemmas.{behind-append, segments-append}
+use Rattle.cm_inline.proofs.lemmas.CallerLemmas.{beyond-append, segments-append}
 use Rattle.cm_inline.proofs.lemmas.KeepsLemmas.{keeps-closer, keeps-text}
 use Rattle.cm_inline.proofs.lemmas.OpenLemmas.{open-more, items-append, all_parts-append, numbers-append}
 use Rattle.cm_inline.proofs.lemmas.PaysLemmas.{closed-pays}
@@ -38,12 +38,12 @@ bracket-text source at utf8 stands = search (
 
 -- With other items, of which it is known what a `]` makes of them.
 pub goes-on : (rules : Rules) (source : List ℕ) (targets : Targets) (at end : ℕ) (old new : Reader) → Stands source at 93 → at < end → (g : Reading rules source targets at old) → (segments : List Segment) → IsReadTo source targets end new segments
-    → closed_at rules (defined_in targets) source (items_in g.segments) at ≡ record { items = reverse (items_in segments); rest = drop end source } → Keeps old.runs.openers.looks (items_in g.segments) new.runs.openers.looks (items_in segments)
+    → closed_at rules (defined_in targets) source (items_in g.segments) at ≡ record { items = reverse (items_in segments); rest = drop end source } → Keeps old.runs.list.looks (items_in g.segments) new.runs.list.looks (items_in segments)
     → Reading rules source targets end new
 goes-on rules source targets at end old new stands further g segments read closed keeps = search (
   read,
   (ahead-bracket rules (defined_in targets) source (items_in g.segments) (items_in segments) at end stands further closed ∙ g.goes),
-  (closed-pays rules (defined_in targets) source (items_in g.segments) (items_in segments) at end old.runs.openers.looks new.runs.openers.looks stands g.pays further keeps closed),
+  (closed-pays rules (defined_in targets) source (items_in g.segments) (items_in segments) at end old.runs.list.looks new.runs.list.looks stands g.pays further keeps closed),
 )
 
 -- No bracket is open.
@@ -51,7 +51,7 @@ no-opener : (leaf : MarkedLeaf) (segments : List Segment) (marks : List Mark) (a
 no-opener leaf segments marks at h = h.none
 
 pub nothing-closes : (rules : Rules) (source : List ℕ) (targets : Targets) (at : ℕ) (old new : Reader) → Stands source at 93 → old.brackets.items ≡ [] → new.brackets.items ≡ [] → view_of new ≡ view_of old
-    → new.runs.openers.looks ≡ old.runs.openers.looks → Reading rules source targets at old → Reading rules source targets (at + 1) new
+    → new.runs.list.looks ≡ old.runs.list.looks → Reading rules source targets at old → Reading rules source targets (at + 1) new
 nothing-closes rules source targets at old new stands none still view looks g =
     let items = items_in g.segments in
     let text = slice_range source at (at + 1) in
@@ -63,13 +63,13 @@ nothing-closes rules source targets at old new stands none still view looks g =
     goes-on rules source targets at (at + 1) old new stands (omega arith) g more read
     (closes-nothing rules (defined_in targets) source items at (no-opener (leaf_of source targets (view_of old)) g.segments (view_of old).marks at r.open_are)
     ∙ ap (λ t. record { items = reverse (items ++ Characters t ∷ []); rest = drop (at + 1) source }) (sym (bracket-slice source at stands)) ∙ ap (λ t. record { items = reverse t; rest = drop (at + 1) source }) (sym is))
-    (subst (λ t. Keeps old.runs.openers.looks items new.runs.openers.looks t) (sym is) (subst (λ n. Keeps old.runs.openers.looks items n (items ++ Characters text ∷ [])) (sym looks) (keeps-closer old.runs.openers.looks items text)))
+    (subst (λ t. Keeps old.runs.list.looks items new.runs.list.looks t) (sym is) (subst (λ n. Keeps old.runs.list.looks items n (items ++ Characters text ∷ [])) (sym looks) (keeps-closer old.runs.list.looks items text)))
 
 -- The last open bracket becomes text.
 abbrev pub left_segment : Bracket → ℕ → Segment
 left_segment b high = Made (Known (Text (bracket_text b.image) ∷ []) ∷ []) (Characters (bracket_text b.image)) high
 
--- The bracket as text, with what is behind it.
+-- The bracket as text, with what is after it.
 pub bracket-closed : (leaf : MarkedLeaf) (b : Bracket) (at to high : ℕ) (inside : List Segment) (late : List Mark) → IsOpener leaf.source b.image at b.end → AreClosed leaf b.end to inside late
     → AreClosed leaf at to (left_segment b high ∷ inside) (mark_at at b.end kinds.Plain ∷ late)
 unfolding all_parts items_in has_opener parts_between
@@ -122,7 +122,7 @@ module _ (source : List ℕ) (targets : Targets) (at : ℕ) (v : View) (b : Brac
   unfolding items_in holds_link
   left-open = subst (λ ms. AreOpen leaf bs (front ++ left) ms at false) (sym level.marks_are) (open-more leaf bs front left level.early (opener_mark ∷ level.late) level.at at false level.below left-closed)
 
-  -- the segments before it, itself and those behind it
+  -- the segments before it, itself and those after it
   pub both : AreSegments runs pairs 0 front × AreSegments runs pairs (number_after 0 front) (opened source b level.high ∷ inside)
   both = segments-split 0 runs pairs front (opened source b level.high ∷ inside) (subst (AreSegments runs pairs 0) level.whole r.segments_are)
 
@@ -143,7 +143,7 @@ module _ (source : List ℕ) (targets : Targets) (at : ℕ) (v : View) (b : Brac
 
   left-high : number_after 0 (front ++ left) ≡ number_after 0 segments
   unfolding number_after
-  left-high = behind-append 0 front left ∙ sym (ap (number_after 0) level.whole ∙ behind-append 0 front (opened source b level.high ∷ inside))
+  left-high = beyond-append 0 front left ∙ sym (ap (number_after 0) level.whole ∙ beyond-append 0 front (opened source b level.high ∷ inside))
 
   pub left-runs : AreRuns front × AreRuns inside
   left-runs = runs-split front (opened source b level.high ∷ inside) (subst AreRuns level.whole r.runs_are)
@@ -153,7 +153,7 @@ module _ (source : List ℕ) (targets : Targets) (at : ℕ) (v : View) (b : Brac
 
 -- A bracket that no link follows is left as text, as the `]` is.
 pub text-closes : (rules : Rules) (source : List ℕ) (targets : Targets) (at : ℕ) (old new : Reader) (others : List Bracket) (b : Bracket) → Stands source at 93 → old.brackets.items ≡ others ++ b ∷ [] → new.brackets.items ≡ others
-    → view_of new ≡ view_of old → new.runs.openers.looks ≡ old.runs.openers.looks → (links_end : ℕ) → links_end ≡ old.links_end → end_for rules (defined_in targets) source b links_end at ≡ None → b.end ≤ at
+    → view_of new ≡ view_of old → new.runs.list.looks ≡ old.runs.list.looks → (links_end : ℕ) → links_end ≡ old.links_end → end_for rules (defined_in targets) source b links_end at ≡ None → b.end ≤ at
     → Reading rules source targets at old → Reading rules source targets (at + 1) new
 text-closes rules source targets at old new others b stands had has view looks links_end same none order g =
     let v = view_of old in
@@ -176,6 +176,6 @@ text-closes rules source targets at old new others b stands had has view looks l
     goes-on rules source targets at (at + 1) old new stands (omega arith) g more read
     (ap (λ t. closed_at rules (defined_in targets) source t at) before ∙ closes-opener rules (defined_in targets) source outer inner b at links_end level.closed.none link order stands.within
     ∙ ap (closed_or outer inner b.image (drop (at + 1) source)) none ∙ ap (λ t. record { items = reverse t; rest = drop (at + 1) source }) (sym is))
-    (subst (λ t. Keeps old.runs.openers.looks t new.runs.openers.looks (items_in more)) (sym before) (subst (λ t. Keeps old.runs.openers.looks (outer ++ Opener b.image (drop b.end source) ∷ inner) new.runs.openers.looks t) (sym is)
-    (subst (λ n. Keeps old.runs.openers.looks (outer ++ Opener b.image (drop b.end source) ∷ inner) n (left_as_text outer inner b.image)) (sym looks)
-    (keeps-text old.runs.openers.looks outer inner b.image (drop b.end source) (bracket_text b.image) (93 ∷ [])))))
+    (subst (λ t. Keeps old.runs.list.looks t new.runs.list.looks (items_in more)) (sym before) (subst (λ t. Keeps old.runs.list.looks (outer ++ Opener b.image (drop b.end source) ∷ inner) new.runs.list.looks t) (sym is)
+    (subst (λ n. Keeps old.runs.list.looks (outer ++ Opener b.image (drop b.end source) ∷ inner) n (left_as_text outer inner b.image)) (sym looks)
+    (keeps-text old.runs.list.looks outer inner b.image (drop b.end source) (bracket_text b.image) (93 ∷ [])))))

@@ -1,9 +1,9 @@
 -- What a delimiter run writes.
 use Rattle.cm_inline.proofs.lemmas.Words.{◌≡◌, ℕ, ◌<◌, ◌≤◌, List, ◌++◌, length, get_or, sym, ap, subst, ◌∙◌, arith, get_or-map, rules}
 use Rattle.cm_inline.specs.declared.runs.Run as held
-use Rattle.cm_inline.specs.declared.runs.Pair as made
+use Rattle.cm_inline.specs.declared.pairing.Pair as made
 use Rattle.cm_inline.specs.steps.pairing.Parts.{PairedRun, no_run, starts, ends_between, run_events}
-use Rattle.cm_inline.specs.steps.pairing.States.{AreChained}
+use Rattle.cm_inline.specs.steps.pairing.States.{AreChained, run_at, no_run as no_held_run}
 use Rattle.cm_inline.specs.steps.pairing.Readings.{Tags, write_all}
 use Rattle.cm_inline.specs.steps.Runs.{byte_of, paired_run, runs_in, pairs_in}
 use Rattle.cm_inline.specs.steps.Writing.{Adds}
@@ -18,9 +18,9 @@ pub record RunKnown (pairs : List made.Pair) (r : held.Run) : Type 0 where
   pub order : r.from ≤ r.to
   pub to : r.to ≤ length pairs
 
-pub run-known : (runs : List held.Run) (pairs : List made.Pair) (number : ℕ) (r : held.Run) → number < length runs → r ≡ get_or runs number r → AreChained (runs_in runs) (pairs_in pairs) → RunKnown pairs r
+pub run-known : (runs : List held.Run) (pairs : List made.Pair) (number : ℕ) (r : held.Run) → number < length runs → r ≡ run_at runs number → AreChained (runs_in runs) (pairs_in pairs) → RunKnown pairs r
 run-known runs pairs number r low read chained =
-    let is : get_or (runs_in runs) number no_run ≡ paired_run r = get_or-map paired_run runs number r no_run low ∙ ap paired_run (sym read) in
+    let is : get_or (runs_in runs) number no_run ≡ paired_run r = get_or-map paired_run runs number no_held_run no_run low ∙ ap paired_run (sym read) in
     let opened : r.opened ≤ length (pairs_in pairs) = subst (λ (q : PairedRun). q.opened ≤ length (pairs_in pairs)) is (chained.opened number) in
     let to : r.to ≤ length (pairs_in pairs) = subst (λ (q : PairedRun). q.to ≤ length (pairs_in pairs)) is (chained.closed number).1 in
     let order : r.from ≤ r.to = subst (λ (q : PairedRun). q.from ≤ q.to) is (chained.closed number).0 in

@@ -47,7 +47,7 @@ none item h = grind (arith, nat_tests)
 pub waits-raised : {fs : List Event} {before : List Item} {l : Listed} {bs : List ℕ} (n : ℕ) → l.next ≤ n → WaitAsOpeners fs before l bs → WaitAsOpeners fs before (record l { next = n }) bs
 waits-raised {fs} {before} {l} {bs} n h w = search (rules, below-more)
 
--- A made item's parts go behind those that the pass has come to.
+-- A made item's parts go after those that the pass has come to.
 pub pass-made : (done ms : List Part) (item : Item) (high : ℕ) (s : State) (before : List Item) → PartsHold done (length s.pairs) s before → IsMade s.runs s.pairs s.list.next ms item high
     → Rising 0 (events_of s.runs s.pairs done ++ events_of s.runs s.pairs ms)
     → PartsHold (done ++ ms) (length s.pairs) (record s { list = record s.list { next = high } }) (item ∷ before)

@@ -18,7 +18,7 @@ use Rattle.cm_inline.proofs.lemmas.EventLemmas.{build-append}
 
 abbrev BuiltKind : List ℕ → Targets → Reader → Mark → (m new : Built) → Kind → Type 0
 BuiltKind source targets reader mark m new kind =
-    new ≡ build m (part_events (runs_in reader.runs.runs.items) (pairs_in reader.runs.pairs.items) (part_of_kind source targets reader.links.items mark.at mark.end kind))
+    new ≡ build m (part_events (runs_in reader.runs.list.runs) (pairs_in reader.runs.pairs.items) (part_of_kind source targets reader.links.items mark.at mark.end kind))
 
 of-kind : (source : List ℕ) (targets : Targets) (reader : Reader) (mark : Mark) (m new : Built) (kind : Kind) → mark.kind ≡ kind → BuiltKind source targets reader mark m new kind → new ≡ build m (mark_events source targets reader mark)
 of-kind source targets reader mark m new kind is h = subst (BuiltKind source targets reader mark m new) (sym is) h
@@ -73,7 +73,7 @@ pub built-end : (source : List ℕ) (targets : Targets) (reader : Reader) (mark 
     → new ≡ closed m (made_of (link_tag source targets number link) (ended m)) → new ≡ build m (mark_events source targets reader mark)
 unfolding build
 built-end source targets reader mark m new number link is known read e =
-    let kind : IsOfKind source targets reader.runs.runs.items reader.links.items mark.at mark.end (kinds.End number) = subst (IsOfKind source targets reader.runs.runs.items reader.links.items mark.at mark.end) is known.kind in
+    let kind : IsOfKind source targets reader.runs.list.runs reader.links.items mark.at mark.end (kinds.End number) = subst (IsOfKind source targets reader.runs.list.runs reader.links.items mark.at mark.end) is known.kind in
     let of : link ≡ get_or reader.links.items number no_link = get_or_read reader.links.items number link kind.known read no_link in
     of-kind source targets reader mark m new (kinds.End number) is (e ∙ ap (λ l. closed m (made_of (link_tag source targets number l) (ended m))) of)
 
@@ -90,15 +90,15 @@ closed-with m text before after outer inline made left pushed is =
 -- all of them
 
 laid-next : (source : List ℕ) (targets : Targets) (reader : Reader) (m : Built) (from at : ℕ) → at < length reader.marks.items → IsBuiltTo source targets reader m from at
-    → AreLaid true source targets reader.runs.runs.items reader.links.items from (length source) (mark_numbered reader.marks.items at ∷ drop (at + 1) reader.marks.items)
-laid-next source targets reader m from at h b = subst (AreLaid true source targets reader.runs.runs.items reader.links.items from (length source)) (drop_more reader.marks.items at no_mark h) b.laid
+    → AreLaid true source targets reader.runs.list.runs reader.links.items from (length source) (mark_numbered reader.marks.items at ∷ drop (at + 1) reader.marks.items)
+laid-next source targets reader m from at h b = subst (AreLaid true source targets reader.runs.list.runs reader.links.items from (length source)) (drop_more reader.marks.items at no_mark h) b.laid
 
 pub built-next : (source : List ℕ) (targets : Targets) (reader : Reader) (m before new : Built) (from at : ℕ) (mark : Mark) (text : List ℕ) → at < length reader.marks.items → mark ≡ mark_numbered reader.marks.items at → IsBuiltTo source targets reader m from at
     → text ≡ slice_range source from mark.at → before ≡ add_text m text → new ≡ build before (mark_events source targets reader mark) → IsBuiltTo source targets reader new mark.end (at + 1)
 built-next source targets reader m before new from at mark text h is b of added made = search (rules, laid-next, drop_more, events-next, build-append, texts-built)
 
 last-laid : (source : List ℕ) (targets : Targets) (reader : Reader) (m : Built) (from at : ℕ) → length reader.marks.items ≤ at → IsBuiltTo source targets reader m from at → IsUnmarked true source from (length source)
-last-laid source targets reader m from at h b = subst (AreLaid true source targets reader.runs.runs.items reader.links.items from (length source)) (drop_all at reader.marks.items h) b.laid
+last-laid source targets reader m from at h b = subst (AreLaid true source targets reader.runs.list.runs reader.links.items from (length source)) (drop_all at reader.marks.items h) b.laid
 
 pub built-last : (source : List ℕ) (targets : Targets) (reader : Reader) (m new : Built) (from at : ℕ) (text : List ℕ) (content : List Inline) → length reader.marks.items ≤ at → IsBuiltTo source targets reader m from at
     → text ≡ slice_range source from (length source) → new ≡ add_text m text → content ≡ ended new → content ≡ inlines_of (events_in source targets reader)

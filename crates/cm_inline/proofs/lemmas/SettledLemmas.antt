@@ -52,7 +52,7 @@ module _ (rules : Rules) (source : List ℕ) (targets : Targets) (old : Reader) 
   all-await = record { waiting = g.read.waiting; place = refl; segments = g.read.segments_are; marked = g.read.runs_are }
 
   pub all-can-pass : CanPass 0 old.runs
-  all-can-pass = can-pass 0 old.runs [] g.segments all-await (pays-few rules (defined_in targets) source items (length source) old.runs.openers.looks g.pays (omega (arith, g.read.short)))
+  all-can-pass = can-pass 0 old.runs [] g.segments all-await (pays-few rules (defined_in targets) source items (length source) old.runs.list.looks g.pays (omega (arith, g.read.short)))
 
   items-are : in_pieces items ≡ in_pieces (inlines.items_of rules (defined_in targets) source)
   items-are = sym (ahead-end rules (defined_in targets) source items (length source) (omega arith)) ∙ g.goes
@@ -62,8 +62,8 @@ module _ (rules : Rules) (source : List ℕ) (targets : Targets) (old : Reader) 
   pairs-too-deep limit deep = nests rules (defined_in targets) limit source items items-are (omega (arith, deep [] g.segments all-await, settled-items (pair_all items)))
 
   -- with all pairs made
-  module _ (runs : Runs) (passes : (front inside : List Segment) → WaitFrom 0 old.runs front inside → AllPaired old.runs runs front inside) (same : SameRuns old.runs.runs.items runs.runs.items)
-      (chained : AreChained (runs_in runs.runs.items) (pairs_in runs.pairs.items)) where
+  module _ (runs : Runs) (passes : (front inside : List Segment) → WaitFrom 0 old.runs front inside → AllPaired old.runs runs front inside) (same : SameRuns old.runs.list.runs runs.list.runs)
+      (chained : AreChained (runs_in runs.list.runs) (pairs_in runs.pairs.items)) where
     abbrev pub new : Reader
     new = record { marks = old.marks; runs = runs; links = old.links; brackets = old.brackets; links_end = old.links_end; lines = old.lines; ends = old.ends }
 
@@ -76,19 +76,19 @@ module _ (rules : Rules) (source : List ℕ) (targets : Targets) (old : Reader) 
     abbrev leaf : MarkedLeaf
     leaf = leaf_of source targets (view_of old)
 
-    parts-are : (all_parts g.segments ≡ parts_in source targets new) × AreLaid old.lines source targets old.runs.runs.items old.links.items 0 (length source) old.marks.items
+    parts-are : (all_parts g.segments ≡ parts_in source targets new) × AreLaid old.lines source targets old.runs.list.runs old.links.items 0 (length source) old.marks.items
     parts-are = open-laid leaf (reverse old.brackets.items) g.segments old.marks.items (length source) false g.read.open_are
 
-    events-are : events_of (runs_in runs.runs.items) (pairs_in runs.pairs.items) (all_parts g.segments) ≡ fs
-    events-are = ap (events_of (runs_in runs.runs.items) (pairs_in runs.pairs.items)) parts-are.0
+    events-are : events_of (runs_in runs.list.runs) (pairs_in runs.pairs.items) (all_parts g.segments) ≡ fs
+    events-are = ap (events_of (runs_in runs.list.runs) (pairs_in runs.pairs.items)) parts-are.0
 
-    later : Later old.runs.runs.items runs.runs.items
+    later : Later old.runs.list.runs runs.list.runs
     later number h = (omega (arith, same.long, h), (same.same number).0, (same.same number).1)
 
-    laid : AreLaid old.lines source targets runs.runs.items old.links.items 0 (length source) old.marks.items
+    laid : AreLaid old.lines source targets runs.list.runs old.links.items 0 (length source) old.marks.items
     laid =
-        subst (λ ls. AreLaid old.lines source targets runs.runs.items ls 0 (length source) old.marks.items) (append-nil old.links.items)
-        (laid-later old.lines source targets old.runs.runs.items runs.runs.items old.links.items [] later 0 (length source) old.marks.items parts-are.1)
+        subst (λ ls. AreLaid old.lines source targets runs.list.runs ls 0 (length source) old.marks.items) (append-nil old.links.items)
+        (laid-later old.lines source targets old.runs.list.runs runs.list.runs old.links.items [] later 0 (length source) old.marks.items parts-are.1)
 
     stand : StandFor fs (pair_all items)
     stand = subst (λ t. StandFor t (pair_all items)) events-are p.reads
@@ -118,10 +118,10 @@ module _ (rules : Rules) (source : List ℕ) (targets : Targets) (old : Reader) 
     pub too-deep : (limit : ℕ) → nat_lt limit (inlines_depth (emphasis_of items)) ≡ true → inlines.nests_past rules (defined_in targets) limit source ≡ true
     too-deep limit deep = nests rules (defined_in targets) limit source items items-are (ltb-true limit (inlines_depth (emphasis_of items)) deep)
 
-    pub is-read : (limit looks : ℕ) → looks ≡ runs.openers.looks → nat_lt limit (inlines_depth (emphasis_of items)) ≡ false → Read rules (defined_in targets) limit source (inlines_of fs, record { 0 = looks })
+    pub is-read : (limit looks : ℕ) → looks ≡ runs.list.looks → nat_lt limit (inlines_depth (emphasis_of items)) ≡ false → Read rules (defined_in targets) limit source (inlines_of fs, record { 0 = looks })
     is-read limit looks same low = record {
       content = content;
       within = within-limit rules (defined_in targets) limit source items items-are (nat_lt-false limit (inlines_depth (emphasis_of items)) low);
-      most = omega (arith, same, p.looks.paid (kinds_by rules) g.pays.are, pays-most rules (defined_in targets) source items (length source) old.runs.openers.looks g.pays);
+      most = omega (arith, same, p.looks.paid (kinds_by rules) g.pays.are, pays-most rules (defined_in targets) source items (length source) old.runs.list.looks g.pays);
       least = omega (arith, same, p.looks.made, g.pays.made, settled-holds (pair_all items), ap emphases (stands-inlines fs (pair_all items) stand));
     }

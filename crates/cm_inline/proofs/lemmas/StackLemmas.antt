@@ -1,4 +1,4 @@
--- A closer's search from the top of the stack of openers, and what its pair does to the stack and to the events.
+-- A closer's search from the last entry on, and what its pair does to the entries and to the events.
 use Rattle.cm_inline.proofs.lemmas.Words.{◌≡◌, ℕ, ◌≤◌, Bool, true, false, cond, nat_le, ◌&&◌, List, [], ◌∷◌, ◌++◌, reverse, Some, None, refl, sym, ap, subst, ◌∙◌}
 use Rattle.cm_inline.proofs.lemmas.Words.{arith, append_assoc, reverse-append, reverse-reverse, leb-true, Run, delimiters_match, Item, Finished, Delimiters}
 use Rattle.cm_inline.proofs.lemmas.Words.{nearest_opener, used, emphasised, settled, without, up_to_pair, opened_at, rules}
@@ -30,7 +30,7 @@ none-no c [] p = tt
 none-no c (Delimiters r ∷ xs) p = (ap (λ b. b && delimiters_match c r) p.0, none-no c xs p.1)
 none-no c (_ ∷ xs) p = (refl, none-no c xs p.1)
 
--- what doesn't open goes behind the last entry
+-- what doesn't open goes after the last entry
 pub stacked-more : (es : List Entry) (fs gs : List Event) (items more : List Item) → Stacked es fs items → StandFor gs (reverse more) → NoneOpens more → Stacked es (fs ++ gs) (more ++ items)
 stacked-more [] fs gs items more s g n = (holds-append fs gs items more s.0 g, none-append more items n s.1)
 stacked-more (e ∷ es) fs gs items more s g n = record {
@@ -64,7 +64,7 @@ pub record Found (c : Run) (e : Entry) (below : List Entry) (fs : List Event) (i
   pub may : e.run.opens ≡ true
   pub stacked : Stacked below front low
 
--- the entries above are gone: a truncation
+-- the entries above are taken out
 pub stacked-found : (c : Run) (passed : List Entry) (e : Entry) (below : List Entry) (fs : List Event) (items : List Item) → Stacked (passed ++ e ∷ below) fs items → NoneAnswers c passed → Found c e below fs items
 unfolding NoOpener
 stacked-found c [] e below fs items s h =
@@ -95,14 +95,14 @@ unfolding NoOpener
 stacked-no c [] fs items s h = none-no c items s.1
 stacked-no c (e ∷ es) fs items s h = search (rules, no-append, none-no, (stacked-no c es s.front s.low s.below h.1))
 
--- so the search of the stack finds what the definition finds
+-- so the search of the list finds what the definition finds
 pub found-nearest : (c : Run) (e : Entry) (below : List Entry) (fs : List Event) (items : List Item) (f : Found c e below fs items) → answers c e ≡ true → nearest_opener c items [] ≡ Some (opened_at e.run f.low (reverse f.inside))
 found-nearest c e below fs items f a = ap (λ l. nearest_opener c l []) f.whole ∙ nearest-at c e.run f.inside f.low f.none a
 
 pub none-nearest : (c : Run) (es : List Entry) (fs : List Event) (items : List Item) → Stacked es fs items → NoneAnswers c es → nearest_opener c items [] ≡ None
 none-nearest c es fs items s h = nearest-none c items [] (stacked-no c es fs items s h)
 
--- The pair: a start behind what is left of the opener, and an end behind all.
+-- The pair: a start after what is left of the opener, and an end after all.
 abbrev pub pair_events : (c : Run) (e : Entry) (below : List Entry) (fs : List Event) (items : List Item) → Found c e below fs items → List Event
 pair_events c e below fs items f =
     (f.front ++ Rest e.place (taken (used e.run c) e.run) ∷ []) ++ (Start (tag_of c.character (used e.run c)) ∷ f.back ++ End (tag_of c.character (used e.run c)) ∷ [])

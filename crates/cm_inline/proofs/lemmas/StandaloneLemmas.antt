@@ -2,7 +2,7 @@
 use Rattle.cm_inline.proofs.lemmas.Words.{◌≡◌, ℕ, zero, suc, ◌+◌, ◌-◌, ◌<◌, ◌≤◌, ◌==◌, ◌&&◌, not, Bool, true, false, List, [], ◌∷◌, ◌++◌, length, take, drop, get_or}
 use Rattle.cm_inline.proofs.lemmas.Words.{Option, Some, None, refl, sym, ap, subst, ◌∙◌, arith, length-append, length-drop, drop-drop, IsUtf8, slice_range}
 use Rattle.cm_inline.proofs.lemmas.Words.{IsCharBoundary, eqb-true, and_parts, drop_more, same_Some, IsCharBoundary-before_ascii, IsCharBoundary-after_ascii}
-use Rattle.cm_inline.proofs.lemmas.Words.{drop-append_seam, Rules, begins_with, run_length, after_run, after_word, Reading, behind, before, Autolink}
+use Rattle.cm_inline.proofs.lemmas.Words.{drop-append_seam, Rules, begins_with, run_length, after_run, after_word, Reading, beyond, before, Autolink}
 use Rattle.cm_inline.proofs.lemmas.Words.{followed_autolink, whole_of, up_to_run, spanned_as_written, none-some, begins-at, rules, nat_tests}
 use Rattle.std.proofs.Math.Seq.{take-append_seam}
 use Rattle.cm_scan.specs.Words.{front_of, skip}
@@ -25,7 +25,7 @@ stood n in_run (b ∷ bs) r e = go (stood n (b == 96) bs) (b == 96 && not in_run
     Further : Type 0
     Further = (s : Reading) → up_to_run n (b == 96) bs ≡ Some s → Stood bs s.text
 
-    further : Further → (o : Option Reading) → up_to_run n (b == 96) bs ≡ o → behind b o ≡ Some r → Stood (b ∷ bs) r.text
+    further : Further → (o : Option Reading) → up_to_run n (b == 96) bs ≡ o → beyond b o ≡ Some r → Stood (b ∷ bs) r.text
     further again None is h = none-some h
     further again (Some s) is h =
         let w = again s is in
@@ -37,7 +37,7 @@ stood n in_run (b ∷ bs) r e = go (stood n (b == 96) bs) (b == 96 && not in_run
         text_of (Some t) = t.text
 
     go : Further → (v : Bool) → (b == 96 && not in_run && run_length 96 (b ∷ bs) == n) ≡ v
-        → (elim v as (λ _. Option Reading) [ true ↦ Some (record { text = []; rest = after_run 96 (b ∷ bs) }) | false ↦ behind b (up_to_run n (b == 96) bs) ]) ≡ Some r → Stood (b ∷ bs) r.text
+        → (elim v as (λ _. Option Reading) [ true ↦ Some (record { text = []; rest = after_run 96 (b ∷ bs) }) | false ↦ beyond b (up_to_run n (b == 96) bs) ]) ≡ Some r → Stood (b ∷ bs) r.text
     go again true is h =
         let same : [] ≡ r.text = ap text_of h in
         subst (Stood (b ∷ bs)) same (record { front = refl; tick = (and_parts (b == 96) (not in_run) (and_parts (b == 96 && not in_run) (run_length 96 (b ∷ bs) == n) is).0).0 })
@@ -101,19 +101,19 @@ is-linked rules text link e = grind (arith, nat_tests, none-some)
 -- an autolink has two bytes or more
 pub link-further : (rules : Rules) (source : List ℕ) (at end : ℕ) (link : Autolink) → at < length source → end ≤ length source → Some link ≡ followed_autolink rules (drop at source) → link.rest ≡ drop end source → end ≡ at + 1 + length link.text + 1
 link-further rules source at end link within high e left =
-    let behind-it : drop (at + 1) source ≡ link.text ++ 62 ∷ link.rest = ap (drop 1) (sym (drop_more source at 0 within) ∙ linked (drop at source) link (is-linked rules (drop at source) link e)) in
-    omega (arith, within, high, ap length behind-it, length-drop (at + 1) source, length-append link.text (62 ∷ link.rest), ap length left, length-drop end source)
+    let beyond-it : drop (at + 1) source ≡ link.text ++ 62 ∷ link.rest = ap (drop 1) (sym (drop_more source at 0 within) ∙ linked (drop at source) link (is-linked rules (drop at source) link e)) in
+    omega (arith, within, high, ap length beyond-it, length-drop (at + 1) source, length-append link.text (62 ∷ link.rest), ap length left, length-drop end source)
 
 pub link-placed : (rules : Rules) (source : List ℕ) (at end : ℕ) (link : Autolink) → IsUtf8 source → at < length source → end ≤ length source → Some link ≡ followed_autolink rules (drop at source) → link.rest ≡ drop end source
     → (slice_range source (at + 1) (end - 1) ≡ link.text) × IsBetween source (at + 1) (end - 1)
 link-placed rules source at end link utf8 within high e left =
-    let behind-it = ap (drop 1) (sym first ∙ whole) in
+    let beyond-it = ap (drop 1) (sym first ∙ whole) in
     let place = link-further rules source at end link within high e left in
     let size : end - 1 - (at + 1) ≡ length link.text = omega (arith, place) in
-    let is = ap (λ n. take n (drop (at + 1) source)) size ∙ ap (take (length link.text)) behind-it ∙ take-append_seam link.text (62 ∷ link.rest) in
+    let is = ap (λ n. take n (drop (at + 1) source)) size ∙ ap (take (length link.text)) beyond-it ∙ take-append_seam link.text (62 ∷ link.rest) in
     let tick : begins_with 62 (drop (end - 1) source) ≡ true =
     let same : end - 1 ≡ at + 1 + length link.text = omega (arith, place) in
-    ap (λ n. begins_with 62 (drop n source)) same ∙ ap (begins_with 62) (sym (drop-drop (length link.text) (at + 1) source) ∙ ap (drop (length link.text)) behind-it ∙ drop-append_seam link.text (62 ∷ link.rest)) in
+    ap (λ n. begins_with 62 (drop n source)) same ∙ ap (begins_with 62) (sym (drop-drop (length link.text) (at + 1) source) ∙ ap (drop (length link.text)) beyond-it ∙ drop-append_seam link.text (62 ∷ link.rest)) in
     let last : IsCharBoundary source (end - 1) = let found = begins-at 62 source (end - 1) tick in IsCharBoundary-before_ascii source (end - 1) found.0 (omega (arith, found.2)) in
     (is, (omega (arith, place), IsCharBoundary-after_ascii source at utf8 within (omega (arith, low)), last))
   where

@@ -2,7 +2,7 @@
 use Rattle.cm_inline.proofs.lemmas.Words.{◌≡◌, ℕ, zero, suc, ◌+◌, ◌-◌, ◌<◌, ◌≤◌, ◌==◌, List, [], ◌∷◌, ◌++◌, length, take, drop, get_or, reverse, refl, sym, ap, subst}
 use Rattle.cm_inline.proofs.lemmas.Words.{◌∙◌, arith, append_assoc, cond-false, ne_eqb, drop_more, drop_all, length-take, length-take-le, length-reverse, get_or-take}
 use Rattle.cm_inline.proofs.lemmas.Words.{reverse-append, take-append-drop, get_or-map, Emphasis, nat_tests}
-use Rattle.cm_inline.specs.declared.runs.Pair as made
+use Rattle.cm_inline.specs.declared.pairing.Pair as made
 use Rattle.cm_inline.specs.steps.pairing.Events.{Event, Start, End}
 use Rattle.cm_inline.specs.steps.pairing.Readings.{Tags, Page, page, mode_of, write_all, start_html, end_html}
 use Rattle.cm_inline.specs.steps.pairing.Parts.{Pair, chain, starts, ends, ends_between}

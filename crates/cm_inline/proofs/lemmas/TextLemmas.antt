@@ -111,13 +111,13 @@ text-to-spaces source at end within e some feed =
     let text = slice_range source at end in
     let parts = trimmed text in
     let left = trim_end_spaces text in
-    let behind : drop at source ≡ left ++ (replicate parts.count 32 ++ drop end source) = slice-front source at end found.low ∙ ap (λ t. t ++ drop end source) parts.is ∙ append_assoc left (replicate parts.count 32) (drop end source) in
-    let rest : drop (at + length left) source ≡ replicate parts.count 32 ++ drop end source = sym (drop-drop (length left) at source) ∙ ap (drop (length left)) behind ∙ drop-past left (replicate parts.count 32 ++ drop end source) in
+    let after : drop at source ≡ left ++ (replicate parts.count 32 ++ drop end source) = slice-front source at end found.low ∙ ap (λ t. t ++ drop end source) parts.is ∙ append_assoc left (replicate parts.count 32) (drop end source) in
+    let rest : drop (at + length left) source ≡ replicate parts.count 32 ++ drop end source = sym (drop-drop (length left) at source) ∙ ap (drop (length left)) after ∙ drop-past left (replicate parts.count 32 ++ drop end source) in
     let size : length text ≡ length left + length (replicate {A = ℕ} parts.count 32) = ap length parts.is ∙ length-append left (replicate parts.count 32) in
     let whole : length text ≤ end - at = length-take-le-count (end - at) (drop at source) in
     let inside : at + length left < length source = omega (arith, size, whole, found.low, some) in
     let first : get_or source (at + length left) 0 < 128 = first-ascii source (at + length left) parts.count (drop end source) inside rest (ap (λ t. get_or t 0 0) (drop_more source end 0 some) ∙ feed) in
-    let part : slice_range source at (at + length left) ≡ left = (let n : at + length left - at ≡ length left = omega arith in ap (λ k. take k (drop at source)) n ∙ ap (take (length left)) behind ∙ take-past left (replicate parts.count 32 ++ drop end source)) in
+    let part : slice_range source at (at + length left) ≡ left = (let n : at + length left - at ≡ length left = omega arith in ap (λ k. take k (drop at source)) n ∙ ap (take (length left)) after ∙ take-past left (replicate parts.count 32 ++ drop end source)) in
     search (
       rules,
       (IsCharBoundary-before_ascii source (at + length left) inside first),

@@ -12,7 +12,7 @@ use Rattle.cm_inline.specs.steps.Runs.{runs_in, pairs_in}
 use Rattle.cm_inline.specs.steps.Standalone.{IsBetween}
 use Rattle.cm_inline.specs.steps.Writing.{Adds, no_mark, mark_numbered, mark_events, events_from, events_after, events_at, is_text, is_end_of, mode_after, IsMarkIn, GoesOn, TextWaits, IsImageAt, IsWrittenTo}
 use Rattle.cm_inline.proofs.lemmas.HtmlLemmas.{run-html, text-html}
-use Rattle.cm_inline.proofs.lemmas.LaidLemmas.{events-next, events-last, settled-mark, settled-behind}
+use Rattle.cm_inline.proofs.lemmas.LaidLemmas.{events-next, events-last, settled-mark, settled-beyond}
 use Rattle.cm_inline.proofs.lemmas.TagLemmas.{ends-last, starts-none}
 use Rattle.cm_inline.proofs.lemmas.WriteLemmas.{write-append, write-from, mode-same, texts-tags, texts-alternative}
 use Rattle.cm_inline.proofs.lemmas.SliceLemmas.{slice-both, slice-none}
@@ -21,20 +21,20 @@ abbrev mode : Page → Mode
 mode p = p.mode
 
 -- a mark that is written as the text that is there
-text-mark : (source : List ℕ) (targets : Targets) (reader : Reader) (mark : Mark) (html : List ℕ) → IsMarkIn source targets reader mark → is_text reader.runs.runs.items mark.kind ≡ true
+text-mark : (source : List ℕ) (targets : Targets) (reader : Reader) (mark : Mark) (html : List ℕ) → IsMarkIn source targets reader mark → is_text reader.runs.list.runs mark.kind ≡ true
     → write_all (page html Tags) (mark_events source targets reader mark) ≡ page (html ++ slice_range source mark.at mark.end) Tags
 unfolding write_all
 text-mark source targets reader mark html m is = search (rules, and_parts, eqb-true, ends-last, starts-none, run-html, text-html, get_or-map)
 
 -- where marks are laid, there is the boundary of a character
-laid-boundary : (source : List ℕ) (targets : Targets) (reader : Reader) (from : ℕ) (ms : List Mark) → AreLaid false source targets reader.runs.runs.items reader.links.items from (length source) ms → IsCharBoundary source from
+laid-boundary : (source : List ℕ) (targets : Targets) (reader : Reader) (from : ℕ) (ms : List Mark) → AreLaid false source targets reader.runs.list.runs reader.links.items from (length source) ms → IsCharBoundary source from
 laid-boundary source targets reader from [] laid = laid.between.1
 laid-boundary source targets reader from (m ∷ ms) laid = laid.0.between.1
 
 -- the next of them
-pub laid-next : (source : List ℕ) (targets : Targets) (reader : Reader) (place n : ℕ) → n < length reader.marks.items → AreLaid false source targets reader.runs.runs.items reader.links.items place (length source) (drop n reader.marks.items)
-    → AreLaid false source targets reader.runs.runs.items reader.links.items place (length source) (mark_numbered reader.marks.items n ∷ drop (n + 1) reader.marks.items)
-laid-next source targets reader place n h laid = subst (AreLaid false source targets reader.runs.runs.items reader.links.items place (length source)) (drop_more reader.marks.items n no_mark h) laid
+pub laid-next : (source : List ℕ) (targets : Targets) (reader : Reader) (place n : ℕ) → n < length reader.marks.items → AreLaid false source targets reader.runs.list.runs reader.links.items place (length source) (drop n reader.marks.items)
+    → AreLaid false source targets reader.runs.list.runs reader.links.items place (length source) (mark_numbered reader.marks.items n ∷ drop (n + 1) reader.marks.items)
+laid-next source targets reader place n h laid = subst (AreLaid false source targets reader.runs.list.runs reader.links.items place (length source)) (drop_more reader.marks.items n no_mark h) laid
 
 -- at first nothing is written
 pub waits-first : (source : List ℕ) (targets : Targets) (reader : Reader) (html : List ℕ) → IsSettled false source targets reader → TextWaits source targets reader html html (record { mark = 0; from = 0 })
@@ -53,7 +53,7 @@ waits-between source targets reader old html next h w =
 
 -- a mark that is text waits too
 pub waits-text : (source : List ℕ) (targets : Targets) (reader : Reader) (old html : List ℕ) (next : Place) → next.mark < length reader.marks.items → IsSettled false source targets reader → TextWaits source targets reader old html next
-    → is_text reader.runs.runs.items (mark_numbered reader.marks.items next.mark).kind ≡ true → TextWaits source targets reader old html (record { mark = next.mark + 1; from = next.from })
+    → is_text reader.runs.list.runs (mark_numbered reader.marks.items next.mark).kind ≡ true → TextWaits source targets reader old html (record { mark = next.mark + 1; from = next.from })
 waits-text source targets reader old html next h settled w is = grind (arith, nat_tests, laid-next, waits-between, settled-mark, waits-mark, write-append, text-mark, append_assoc, slice-both)
 
 -- no alternative text is left open
@@ -67,8 +67,8 @@ pub waits-on : (source : List ℕ) (targets : Targets) (reader : Reader) (old ht
 waits-on source targets reader old html before new next further h w e g = search (rules, laid-boundary, waits-mark, slice-none, append-nil)
 
 -- the text after the last mark
-laid-last : (source : List ℕ) (targets : Targets) (reader : Reader) (place n : ℕ) → length reader.marks.items ≤ n → AreLaid false source targets reader.runs.runs.items reader.links.items place (length source) (drop n reader.marks.items) → IsUnmarked false source place (length source)
-laid-last source targets reader place n h laid = subst (AreLaid false source targets reader.runs.runs.items reader.links.items place (length source)) (drop_all n reader.marks.items h) laid
+laid-last : (source : List ℕ) (targets : Targets) (reader : Reader) (place n : ℕ) → length reader.marks.items ≤ n → AreLaid false source targets reader.runs.list.runs reader.links.items place (length source) (drop n reader.marks.items) → IsUnmarked false source place (length source)
+laid-last source targets reader place n h laid = subst (AreLaid false source targets reader.runs.list.runs reader.links.items place (length source)) (drop_all n reader.marks.items h) laid
 
 pub waits-last : (source : List ℕ) (targets : Targets) (reader : Reader) (old html new : List ℕ) (next : Place) → length reader.marks.items ≤ next.mark → TextWaits source targets reader old html next → new ≡ html ++ slice_range source next.from (length source)
     → new ≡ old ++ (write_all (page [] Tags) (events_in source targets reader)).html
@@ -109,13 +109,13 @@ image-ends source targets reader old html new at number mark r is f image known 
 pub mark-goes-on : (source : List ℕ) (targets : Targets) (reader : Reader) (old html : List ℕ) (at : ℕ) (mark : Mark) → IsSettled false source targets reader → at < length reader.marks.items → mark ≡ mark_numbered reader.marks.items at
     → write_all (page old Tags) (mark_events source targets reader mark) ≡ page html (mode_after reader.links.items mark.kind) → mode_after reader.links.items mark.kind ≡ Tags
     → GoesOn source targets reader (page old Tags) (events_at source targets reader at) html (record { mark = at + 1; from = mark.end })
-mark-goes-on source targets reader old html at mark settled h is e tags = search (rules, settled-behind, mark-then)
+mark-goes-on source targets reader old html at mark settled h is e tags = search (rules, settled-beyond, mark-then)
 
 -- the alternative text
 
 pub alternative-first : (source : List ℕ) (targets : Targets) (reader : Reader) (html : List ℕ) (start link : ℕ) (mark : Mark) → mark ≡ mark_numbered reader.marks.items start → IsImageAt source targets reader html start link
     → IsWrittenTo source targets reader html html start link mark.end (start + 1)
-alternative-first source targets reader html start link mark is image = search (rules, settled-behind)
+alternative-first source targets reader html start link mark is image = search (rules, settled-beyond)
 
 -- the text up to the next mark
 alternative-text : (source : List ℕ) (targets : Targets) (reader : Reader) (old html before : List ℕ) (start link from at : ℕ) → at < length reader.marks.items → IsWrittenTo source targets reader old html start link from at
@@ -152,8 +152,8 @@ events-here : (source : List ℕ) (targets : Targets) (reader : Reader) (at : �
 unfolding events_of
 events-here source targets reader at h = search (rules, drop_more, events-next, slice-none)
 
-laid-here : (source : List ℕ) (targets : Targets) (reader : Reader) (from at : ℕ) → at < length reader.marks.items → AreLaid false source targets reader.runs.runs.items reader.links.items from (length source) (drop at reader.marks.items)
-    → AreLaid false source targets reader.runs.runs.items reader.links.items (mark_numbered reader.marks.items at).at (length source) (drop at reader.marks.items)
+laid-here : (source : List ℕ) (targets : Targets) (reader : Reader) (from at : ℕ) → at < length reader.marks.items → AreLaid false source targets reader.runs.list.runs reader.links.items from (length source) (drop at reader.marks.items)
+    → AreLaid false source targets reader.runs.list.runs reader.links.items (mark_numbered reader.marks.items at).at (length source) (drop at reader.marks.items)
 laid-here source targets reader from at h laid = search (rules, laid-next, slice-none, drop_more)
 
 pub alternative-end : (source : List ℕ) (targets : Targets) (reader : Reader) (old html before : List ℕ) (start link from at : ℕ) (mark : Mark) → at < length reader.marks.items → mark ≡ mark_numbered reader.marks.items at
@@ -161,14 +161,14 @@ pub alternative-end : (source : List ℕ) (targets : Targets) (reader : Reader) 
     → GoesOn source targets reader (page old (Alternative link)) (events_after source targets reader start) before (record { mark = at; from = mark.at })
 alternative-end source targets reader old html before start link from at mark h is w e end =
     let m = mark_numbered reader.marks.items at in
-    let behind = events_after source targets reader at in
+    let beyond = events_after source targets reader at in
     subst (λ (k : Mark). GoesOn source targets reader (page old (Alternative link)) (events_after source targets reader start) before (record { mark = at; from = k.at })) (sym is)
     (record {
       laid = laid-here source targets reader from at h w.laid;
       same = alternative-text source targets reader old html before start link from at h w (e ∙ ap (λ (k : Mark). html ++ escape (one_line (slice_range source from k.at))) is)
-          ∙ write-append (page before (Alternative link)) (mark_events source targets reader m) behind
-          ∙ ap (λ p. write_all p behind) (end-mark source targets reader link before m (ap (λ (k : Mark). is_end_of link k.kind) (sym is) ∙ end))
-          ∙ sym (write-append (page before Tags) (mark_events source targets reader m) behind)
+          ∙ write-append (page before (Alternative link)) (mark_events source targets reader m) beyond
+          ∙ ap (λ p. write_all p beyond) (end-mark source targets reader link before m (ap (λ (k : Mark). is_end_of link k.kind) (sym is) ∙ end))
+          ∙ sym (write-append (page before Tags) (mark_events source targets reader m) beyond)
           ∙ ap (write_all (page before Tags)) (sym (events-here source targets reader at h));
     })
 
@@ -178,6 +178,6 @@ alternative-ends source targets reader old html start link from at h image w =
     let left : (write_all (page old (Alternative link)) (events_after source targets reader start)).mode ≡ Alternative link =
     ap (λ p. mode p) (w.same ∙ ap (λ t. write_all (page html (Alternative link)) (events_from source targets reader from t)) (drop_all at reader.marks.items h)
     ∙ ap (write_all (page html (Alternative link))) (events-last source targets reader from)
-    ∙ texts-alternative (runs_in reader.runs.runs.items) (pairs_in reader.runs.pairs.items) (slice_range source from (length source)) html link) in
+    ∙ texts-alternative (runs_in reader.runs.list.runs) (pairs_in reader.runs.pairs.items) (slice_range source from (length source)) html link) in
     let never : Alternative link ≡ Tags = sym left ∙ image.ends in
     absurd (cc never)

@@ -7,8 +7,7 @@ use Rattle.std.proofs.Math.Seq.{take-set-lt}
 use Rattle.std.proofs.lemmas.List.Sums.{sum_by-set}
 use Rattle.cm_scan.proofs.lemmas.inlines.PairingLemmas.{used-some}
 use Rattle.cm_inline.specs.steps.Entries.{Entry, Listed, answers, above, reserve, Below, Falling}
-use Rattle.cm_inline.specs.steps.Searching.{kind, IsMarked, find_opener, looks_for, AreSound, characters}
-use Rattle.cm_inline.specs.steps.Openers.{spent}
+use Rattle.cm_inline.specs.steps.Searching.{kind, IsMarked, find_opener, looks_for, AreSound, characters, spent}
 use Rattle.cm_inline.proofs.lemmas.BottomLemmas.{kind-small}
 use Rattle.cm_inline.proofs.lemmas.NumberLemmas.{nat-split as nat_split}
 use Rattle.cm_inline.proofs.lemmas.ReserveLemmas.{reserve-push, reserve-remove, above-all}
@@ -63,14 +62,14 @@ waits-fails fs before c l bs w m h f =
       paid = paid-fails c l bs (waits-ready w) f;
     }
 
--- entries behind others
-falling-behind : (xs ys : List Entry) → Falling (xs ++ ys) → Falling ys
-falling-behind [] ys f = f
-falling-behind (x ∷ xs) ys f = falling-behind xs ys f.1
+-- entries after others
+pub falling-beyond : (xs ys : List Entry) → Falling (xs ++ ys) → Falling ys
+falling-beyond [] ys f = f
+falling-beyond (x ∷ xs) ys f = falling-beyond xs ys f.1
 
-below-behind : (n : ℕ) (xs ys : List Entry) → Below n (xs ++ ys) → Below n ys
-below-behind n [] ys b = b
-below-behind n (x ∷ xs) ys b = below-behind n xs ys b.1
+pub below-beyond : (n : ℕ) (xs ys : List Entry) → Below n (xs ++ ys) → Below n ys
+below-beyond n [] ys b = b
+below-beyond n (x ∷ xs) ys b = below-beyond n xs ys b.1
 
 -- what is left of an entry in its place
 answers-taken : (c : Run) (n : ℕ) (e : Entry) → answers c (record e { run = taken n e.run }) ≡ answers c e
@@ -114,12 +113,12 @@ abbrev pub after_pair : Run → Entry → ℕ → List Entry → Listed → List
 after_pair c e looks below l = record { entries = rest_of (used e.run c) e ++ below; looks = l.looks + looks; next = l.next }
 
 pub remains : (kinds : ℕ) (c : Run) (e : Entry) (l : Listed) (bs : List ℕ) → IsReady l bs → (g : FoundBy c (get_or bs (kind c) 0) l.entries e) → Remains (used e.run c) kinds bs e g.below (rest_of (used e.run c) e ++ g.below)
-remains kinds c e l bs w g = rest-fits (used e.run c) kinds bs e g.below (used-some e.run c) (falling-behind g.passed (e ∷ g.below) (subst Falling g.whole w.falling))
+remains kinds c e l bs w g = rest-fits (used e.run c) kinds bs e g.below (used-some e.run c) (falling-beyond g.passed (e ∷ g.below) (subst Falling g.whole w.falling))
 
 pub ready-pairs : (c : Run) (e : Entry) (l : Listed) (bs : List ℕ) (looks : ℕ) → IsReady l bs → (g : FoundBy c (get_or bs (kind c) 0) l.entries e) → IsReady (after_pair c e looks g.below l) bs
 ready-pairs c e l bs looks w g =
     let r = remains 0 c e l bs w g in
-    record { falling = r.falling; under = r.under l.next (below-behind l.next g.passed (e ∷ g.below) (subst (Below l.next) g.whole w.under)); size = w.size; low = w.low }
+    record { falling = r.falling; under = r.under l.next (below-beyond l.next g.passed (e ∷ g.below) (subst (Below l.next) g.whole w.under)); size = w.size; low = w.low }
 
 pub paid-pairs : (c : Run) (e : Entry) (l : Listed) (bs : List ℕ) → IsReady l bs → (g : FoundBy c (get_or bs (kind c) 0) l.entries e) → (kinds : ℕ)
     → spent kinds (after_pair c e (looks_for c (get_or bs (kind c) 0) l.entries) g.below l) bs ≤ spent kinds l bs

@@ -34,7 +34,7 @@ step-on rules defined source at end items within further rest =
     let b = get_or source at 0 in
     let before = reverse (take at source) in
     let taken = slice_range source (at + 1) end in
-    let behind : drop (at + 1) source ≡ taken ++ drop end source = slice-front source (at + 1) end (omega (arith, further)) in
+    let beyond : drop (at + 1) source ≡ taken ++ drop end source = slice-front source (at + 1) end (omega (arith, further)) in
     grind (arith, nat_tests, drop_more, reading_goes_on, before-one)
 
 pub ahead-step : (rules : Rules) (defined : Defined) (source : List ℕ) (so_far more : List pairing.Item) (at end : ℕ) → at < length source → at < end

@@ -31,8 +31,8 @@ pub use Rattle.cm_inline.specs.declared.marks.Kind.TheVariants.{Plain}
 pub use Rattle.cm_inline.specs.declared.marks.Mark.{Mark}
 pub use Rattle.cm_inline.specs.declared.missing_ends.Form.TheVariants.{Comment, Declaration}
 pub use Rattle.cm_inline.specs.declared.missing_ends.MissingEnds.{MissingEnds}
-pub use Rattle.cm_inline.specs.declared.runs.Emphasis.{Emphasis}
-pub use Rattle.cm_inline.specs.declared.runs.Pair.{Pair as HeldPair, Pair}
+pub use Rattle.cm_inline.specs.declared.pairing.Emphasis.{Emphasis}
+pub use Rattle.cm_inline.specs.declared.pairing.Pair.{Pair as HeldPair, Pair}
 pub use Rattle.cm_inline.specs.declared.runs.Run.{Run as HeldRun}
 pub use Rattle.cm_inline.specs.declared.runs.Runs.{Runs}
 pub use Rattle.cm_scan.proofs.lemmas.inlines.OnePassLemmas.{closed_by-gone, closed_by-more, pairs_in_one_pass}
@@ -55,7 +55,7 @@ pub use Rattle.cm_scan.specs.inlines.Delimiters.{Run}
 unfoldable pub use Rattle.cm_scan.specs.inlines.Delimiters.{delimiters_match}
 unfoldable pub use Rattle.cm_scan.specs.inlines.Inlines.{add_atom, depth_of_leaf, inlines_of, item_step, items_after}
 pub use Rattle.cm_scan.specs.inlines.Inlines.{nests_past, with_item}
-pub use Rattle.cm_scan.specs.inlines.Links.{Reading, behind}
+pub use Rattle.cm_scan.specs.inlines.Links.{Reading, beyond}
 unfoldable pub use Rattle.cm_scan.specs.inlines.Links.{label}
 unfoldable pub use Rattle.cm_scan.specs.inlines.OnePass.{pass_from}
 pub use Rattle.cm_scan.specs.inlines.OnePass.{passed, up_to_pair}

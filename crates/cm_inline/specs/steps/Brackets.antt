@@ -17,7 +17,7 @@ use Rattle.cm_inline.specs.declared.marks.Mark.{Mark}
 use Rattle.cm_inline.specs.declared.marks.Kind.TheVariants as kinds
 use Rattle.cm_inline.specs.declared.marks.Kind.TheVariants.{Plain}
 use Rattle.cm_inline.specs.declared.missing_ends.MissingEnds.{MissingEnds}
-use Rattle.cm_inline.specs.declared.runs.Pair.{Pair as HeldPair}
+use Rattle.cm_inline.specs.declared.pairing.Pair.{Pair as HeldPair}
 use Rattle.cm_inline.specs.declared.runs.Run.{Run as HeldRun}
 use Rattle.cm_inline.specs.steps.pairing.Events.{Event, Text}
 use Rattle.cm_inline.specs.steps.pairing.Paired.{AreRuns}
@@ -103,7 +103,7 @@ abbrev pub view_of : Reader → View
 view_of reader = record {
   lines = reader.lines;
   marks = reader.marks.items;
-  runs = reader.runs.runs.items;
+  runs = reader.runs.list.runs;
   waiting = reader.runs.waiting.items;
   pairs = reader.runs.pairs.items;
   links = reader.links.items;
@@ -143,7 +143,7 @@ pub record Reading (rules : Rules) (source : List ℕ) (targets : Targets) (at :
   pub segments : List Segment
   pub read : IsReadTo source targets at reader segments
   pub goes : ahead rules (defined_in targets) source (items_in segments) at ≡ in_pieces (inlines.items_of rules (defined_in targets) source)
-  pub pays : Pays rules (defined_in targets) source (items_in segments) at reader.runs.openers.looks
+  pub pays : Pays rules (defined_in targets) source (items_in segments) at reader.runs.list.looks
 
 -- what a `]` at a place makes of items, and what it leaves of the source
 abbrev pub closed_at : Rules → Defined → List ℕ → List Item → ℕ → Bracketed
@@ -184,11 +184,11 @@ brackets_for mark waiting end _ = []
 pub record Puts (rules : Rules) (source : List ℕ) (at end : ℕ) (old new : Reader) : Type 0 where
   pub atom : Atom
   pub begins : Begins rules source at atom end
-  pub marks : new.marks.items ≡ old.marks.items ++ marks_for old.lines source at end (length old.runs.runs.items) atom
-  pub runs : new.runs.runs.items ≡ old.runs.runs.items ++ runs_for atom
-  pub waiting : new.runs.waiting.items ≡ old.runs.waiting.items ++ numbers_for (length old.runs.runs.items) atom
+  pub marks : new.marks.items ≡ old.marks.items ++ marks_for old.lines source at end (length old.runs.list.runs) atom
+  pub runs : new.runs.list.runs ≡ old.runs.list.runs ++ runs_for atom
+  pub waiting : new.runs.waiting.items ≡ old.runs.waiting.items ++ numbers_for (length old.runs.list.runs) atom
   pub pairs : new.runs.pairs ≡ old.runs.pairs
-  pub openers : new.runs.openers ≡ old.runs.openers
+  pub looks : new.runs.list.looks ≡ old.runs.list.looks
   pub links : new.links ≡ old.links
   pub brackets : new.brackets.items ≡ old.brackets.items ++ brackets_for (length old.marks.items) (length old.runs.waiting.items) end atom
   pub links_end : new.links_end ≡ old.links_end

@@ -22,5 +22,5 @@ closed m inline = record { content = innermost m.outer ++ inline ∷ []; text = 
 
 -- The inlines are made of the marks before one, and of the text up to a place after them.
 pub record IsBuiltTo (source : List ℕ) (targets : Targets) (reader : Reader) (m : Built) (from at : ℕ) : Type 0 where
-  pub laid : AreLaid true source targets reader.runs.runs.items reader.links.items from (length source) (drop at reader.marks.items)
+  pub laid : AreLaid true source targets reader.runs.list.runs reader.links.items from (length source) (drop at reader.marks.items)
   pub same : build nothing_built (events_in source targets reader) ≡ build m (events_from source targets reader from (drop at reader.marks.items))

@@ -1,7 +1,7 @@
 -- Where a link or an image leads, and the place where it ends.
 use Rattle.std.specs.Prelude.{◌≡◌, ℕ, ◌+◌, ◌-◌, ◌<◌, ◌≤◌, List, drop, slice_index, Option, Some, None, option_map, codes}
 use Rattle.std.specs.Borrow.{Bor}
-use Rattle.std.specs.Str.{IsCharBoundary}
+use Rattle.std.specs.Str.{IsCharBoundary, byte}
 use Rattle.cm_tree.specs.Definitions.{Target}
 use Rattle.cm_scan.specs.Words.{after_word}
 use Rattle.cm_scan.specs.inlines.Brackets as brackets
@@ -9,15 +9,14 @@ use Rattle.cm_scan.specs.inlines.Brackets.{Defined, target_of}
 use Rattle.cm_inline.specs.declared.leaf.Leaf.{Leaf}
 use Rattle.cm_inline.specs.declared.links.LinkEnd.{LinkEnd}
 use Rattle.cm_inline.specs.steps.Marks.{target_in, IsTargetIn}
-use Rattle.cm_text.specs.Bytes.{left_bracket, right_bracket}
 use Rattle.cm_inline.specs.steps.Reads.{Stands}
 
 -- `[` ends at the one place, and `]` is at the other, which isn't before that, each with a character or the end after it.
 pub record AreBrackets (source : List ℕ) (after at : ℕ) : Type 0 where
-  pub bracket : (0 < after) × (slice_index source (after - 1) ≡ left_bracket)
+  pub bracket : (0 < after) × (slice_index source (after - 1) ≡ byte "[")
   pub start : IsCharBoundary source after
   pub order : after ≤ at
-  pub stands : Stands source at right_bracket
+  pub stands : Stands source at (byte "]")
   pub next : IsCharBoundary source (at + 1)
 
 -- what was found in a leaf, if it was, with what is left after the place where it ends

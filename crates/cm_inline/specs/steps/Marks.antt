@@ -1,7 +1,7 @@
 -- The marks of a source, with the text around them, as events.
 use Rattle.std.specs.Prelude.{◌≡◌, ℕ, ◌+◌, ◌-◌, ◌^◌, ◌<◌, Bool, true, false, not, ◌&&◌, ◌==◌, ◌||◌, if◌then◌else◌, List, [], ◌∷◌, ◌++◌, length, map, get_or, replicate, encode_utf8, ⊤}
 use Rattle.std.specs.List.{slice_range, list_all}
-use Rattle.cm_text.specs.Bytes.{line_feed, quotation_mark, ampersand, less_than, greater_than}
+use Rattle.std.specs.Str.{byte}
 use Rattle.cm_text.specs.Unescaping.{unescape}
 use Rattle.cm_tree.specs.Definitions.{Target, Targets, target_numbered}
 use Rattle.cm_tree.specs.declared.tree.Inline.TheVariants as inlines
@@ -58,7 +58,7 @@ part_of source targets links mark = part_of_kind source targets links mark.at ma
 
 -- a byte of text: a line feed is a soft line break
 abbrev pub text_event : ℕ → Event
-text_event b = if b == line_feed then Whole inlines.Soft else Text (b ∷ [])
+text_event b = if b == byte "\n" then Whole inlines.Soft else Text (b ∷ [])
 
 abbrev pub text_part : ℕ → Part
 text_part b = Known (text_event b ∷ [])
@@ -76,11 +76,11 @@ abbrev pub parts_in : List ℕ → Targets → Reader → List Part
 parts_in source targets reader = parts_between source targets reader.links.items 0 (length source) reader.marks.items
 
 abbrev pub events_in : List ℕ → Targets → Reader → List Event
-events_in source targets reader = events_of (runs_in reader.runs.runs.items) (pairs_in reader.runs.pairs.items) (parts_in source targets reader)
+events_in source targets reader = events_of (runs_in reader.runs.list.runs) (pairs_in reader.runs.pairs.items) (parts_in source targets reader)
 
 -- a byte that HTML has as a reference
 abbrev pub is_escaped : ℕ → Bool
-is_escaped b = b == ampersand || b == less_than || b == greater_than || b == quotation_mark
+is_escaped b = b == byte "&" || b == byte "<" || b == byte ">" || b == byte "\""
 
 -- what HTML doesn't have as it is of a code span: `&`, `<`, `>`, `"` and a line feed; and a backtick, which ends it
 abbrev pub is_changed_in_code : ℕ → Bool
@@ -88,7 +88,7 @@ is_changed_in_code b = b == 38 || b == 60 || b == 62 || b == 34 || b == 10 || b 
 
 -- a byte of the text between marks; if lines are wanted, a line feed has a mark
 abbrev pub stays_text : (lines : Bool) → ℕ → Bool
-stays_text lines b = not (is_escaped b) && not (lines && b == line_feed)
+stays_text lines b = not (is_escaped b) && not (lines && b == byte "\n")
 
 -- text without a mark
 pub record IsUnmarked (lines : Bool) (source : List ℕ) (from to : ℕ) : Type 0 where
@@ -125,6 +125,6 @@ AreLaid lines source targets runs links from to (m ∷ ms) =
 -- A source was read to its end, and nothing more is made of its marks: they can be written from it.
 pub record IsSettled (lines : Bool) (source : List ℕ) (targets : Targets) (reader : Reader) : Type 0 where
   pub short : length source < 2 ^ 32
-  pub laid : AreLaid lines source targets reader.runs.runs.items reader.links.items 0 (length source) reader.marks.items
-  pub chained : AreChained (runs_in reader.runs.runs.items) (pairs_in reader.runs.pairs.items)
+  pub laid : AreLaid lines source targets reader.runs.list.runs reader.links.items 0 (length source) reader.marks.items
+  pub chained : AreChained (runs_in reader.runs.list.runs) (pairs_in reader.runs.pairs.items)
   pub ends : (write_all (page [] Tags) (events_in source targets reader)).mode ≡ Tags

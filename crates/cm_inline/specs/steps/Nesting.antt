@@ -36,8 +36,8 @@ CanRiseAll bound l (f ∷ fs) = CanRise bound l f × CanRiseAll bound (rise l f)
 
 -- The inlines of marks nest this deep: one deeper than there are starts at most, which are no more than pairs and links.
 pub record NestsTo (lines : Bool) (source : List ℕ) (targets : Targets) (reader : Reader) (depth : ℕ) : Type 0 where
-  pub laid : AreLaid lines source targets reader.runs.runs.items reader.links.items 0 (length source) reader.marks.items
-  pub chained : AreChained (runs_in reader.runs.runs.items) (pairs_in reader.runs.pairs.items)
+  pub laid : AreLaid lines source targets reader.runs.list.runs reader.links.items 0 (length source) reader.marks.items
+  pub chained : AreChained (runs_in reader.runs.list.runs) (pairs_in reader.runs.pairs.items)
   pub nests : deepest 0 0 (events_in source targets reader) ≡ Some depth
   pub near : depth ≤ starts_in (events_in source targets reader) + 1
   pub few : starts_in (events_in source targets reader) ≤ length reader.runs.pairs.items + length reader.links.items
@@ -45,6 +45,6 @@ pub record NestsTo (lines : Bool) (source : List ℕ) (targets : Targets) (reade
 -- The marks from one on nest from this level on.
 pub record NestsFrom (lines : Bool) (source : List ℕ) (targets : Targets) (reader : Reader) (depth at : ℕ) (level : Level) : Type 0 where
   pub from : ℕ
-  pub laid : AreLaid lines source targets reader.runs.runs.items reader.links.items from (length source) (drop at reader.marks.items)
+  pub laid : AreLaid lines source targets reader.runs.list.runs reader.links.items from (length source) (drop at reader.marks.items)
   pub high : level.now ≤ level.most
   pub rest : deepest level.now level.most (events_from source targets reader from (drop at reader.marks.items)) ≡ Some depth

@@ -1,7 +1,6 @@
 -- The names that the contracts of the larger files cite, passed on from one place. It declares nothing.
-pub use Rattle.std.specs.Str.{IsCharBoundary}
+pub use Rattle.std.specs.Str.{IsCharBoundary, byte}
 pub use Rattle.cm_text.specs.Rules.{Rules}
-pub use Rattle.cm_text.specs.Bytes.{line_feed, space, exclamation_mark, ampersand, less_than, backslash, right_bracket, backtick, tilde}
 pub use Rattle.cm_scan.specs.inlines.Atoms.{is_markup}
 pub use Rattle.cm_scan.specs.spans.RawHtml.{raw_html}
 pub use Rattle.cm_scan.specs.Scanned.{reading_of, whole_of}

@@ -1,7 +1,7 @@
 -- What starts at a place of a source, and what reading on from there brings.
 use Rattle.std.specs.Prelude.{◌≡◌, ℕ, zero, ◌+◌, ◌-◌, ◌*◌, ◌^◌, ◌<◌, ◌≤◌, ◌==◌, ◌||◌, if◌then◌else◌, nat_lt, Bool, true, false, List, [], ◌∷◌, ◌++◌, Option, Some, None, length, take, drop, reverse, slice_index, encode_utf8_all, replicate, ⊤}
 use Rattle.std.specs.List.{list_all, slice_range}
-use Rattle.std.specs.Str.{IsCharBoundary}
+use Rattle.std.specs.Str.{IsCharBoundary, byte}
 use Rattle.cm_text.specs.Rules.{Rules}
 use Rattle.cm_text.specs.References.{chars_of}
 use Rattle.cm_tree.specs.declared.tree.Inline.{Inline}
@@ -16,7 +16,6 @@ use Rattle.cm_html.specs.Html.{inlines_html}
 use Rattle.cm_scan.specs.inlines.Inlines.{items_after, inlines_of, nests_past}
 use Rattle.cm_scan.specs.laws.InlineLaws.{is_plain_byte, keeps_spaces}
 use Rattle.cm_scan.specs.inlines.DelimiterRuns.{runs_after, runs_of, characters_of}
-use Rattle.cm_text.specs.Bytes.{line_feed, space}
 use Rattle.cm_inline.specs.Closers.{kinds_by}
 use Rattle.cm_inline.specs.Emphases.{emphases_of}
 use Rattle.cm_inline.specs.Reading.{looks_at_most}
@@ -57,7 +56,7 @@ pub record IsAllText (source : List ℕ) : Type 0 where
 
 -- a byte with which a line break can start
 abbrev pub is_break_byte : ℕ → Bool
-is_break_byte b = b == line_feed || b == space
+is_break_byte b = b == byte "\n" || b == byte " "
 
 -- what an atom puts among the items; a `]` puts nothing by itself
 abbrev pub item_for : Atom → List ℕ → Option items.Item
@@ -115,10 +114,10 @@ IsInline source at end _ = ⊥
 abbrev pub IsThere : List ℕ → (at end : ℕ) → ReadAtom → Type 0
 IsThere source at end read.Text = list_all (stays_text true) (slice_range source at end) ≡ true
 IsThere source at end read.Escaped = (b : ℕ) × (is_escaped b ≡ true) × (slice_range source at end ≡ b ∷ [])
-IsThere source at end read.Escape = (b : ℕ) × (end ≡ at + 2) × IsCharBoundary source (at + 1) × (slice_range source (at + 1) end ≡ b ∷ []) × (b ≡ slice_index source (at + 1)) × ((b == line_feed) ≡ false)
+IsThere source at end read.Escape = (b : ℕ) × (end ≡ at + 2) × IsCharBoundary source (at + 1) × (slice_range source (at + 1) end ≡ b ∷ []) × (b ≡ slice_index source (at + 1)) × ((b == byte "\n") ≡ false)
 IsThere source at end (read.Reference chars) = ⊤
 IsThere source at end (read.Whole kind) = IsInline source at end kind
-IsThere source at end read.LineFeed = (end ≡ at + 1) × (slice_range source at end ≡ line_feed ∷ [])
+IsThere source at end read.LineFeed = (end ≡ at + 1) × (slice_range source at end ≡ byte "\n" ∷ [])
 IsThere source at end (read.Opener image) = (at + length (items.bracket_text image) ≡ end) × (drop at source ≡ items.bracket_text image ++ drop end source)
 IsThere source at end (read.Run run) = slice_range source at end ≡ replicate run.whole (byte_of run.marker)
 

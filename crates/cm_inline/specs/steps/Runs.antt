@@ -1,14 +1,13 @@
--- What the program's delimiter runs, openers and pairs stand for in the definitions.
+-- What the program's delimiter runs, entries and pairs stand for in the definitions.
 use Rattle.std.specs.Prelude.{ℕ, List, map}
 use Rattle.cm_scan.specs.inlines.Delimiters.{Run}
 use Rattle.cm_scan.specs.inlines.Delimiters as delimiters
 use Rattle.cm_inline.specs.declared.flanking.Neighbour.{Neighbour}
 use Rattle.cm_inline.specs.declared.delimiter_runs.DelimiterRun.{DelimiterRun}
 use Rattle.cm_inline.specs.declared.delimiter_runs.Marker.{Marker}
-use Rattle.cm_inline.specs.declared.openers.Opener.{Opener}
 use Rattle.cm_inline.specs.declared.runs.Run.{Run as HeldRun}
-use Rattle.cm_inline.specs.declared.runs.Pair.{Pair as HeldPair}
-use Rattle.cm_inline.specs.declared.runs.Emphasis.{Emphasis}
+use Rattle.cm_inline.specs.declared.pairing.Pair.{Pair as HeldPair}
+use Rattle.cm_inline.specs.declared.pairing.Emphasis.{Emphasis}
 use Rattle.cm_inline.specs.steps.pairing.Events.{Tag}
 use Rattle.cm_inline.specs.steps.pairing.Events as tags
 use Rattle.cm_inline.specs.steps.pairing.Parts.{Pair, PairedRun}
@@ -27,8 +26,15 @@ neighbour_of Neighbour.Other = delimiters.other
 abbrev pub run_of : DelimiterRun → Run
 run_of r = record { character = byte_of r.marker; whole = r.whole; left = r.left; opens = r.opens; closes = r.closes }
 
-abbrev pub entry_of : Opener → Entry
-entry_of opener = record { place = opener.number; run = run_of opener.run }
+-- the entry that a run with a number is
+abbrev pub entry_of : ℕ → HeldRun → Entry
+entry_of number r = record { place = number; run = run_of r.run }
+
+-- the runs, the entries of the list, the last first, and how often one was read
+pub record Listing : Type 0 where
+  pub runs : List HeldRun
+  pub entries : List Entry
+  pub looks : ℕ
 
 -- a run with its pairs, and the runs of a leaf
 abbrev pub paired_run : HeldRun → PairedRun

@@ -1,8 +1,8 @@
 -- The search for an opener among those before a closer, with bottoms.
-use Rattle.std.specs.Prelude.{◌≡◌, ◌⊎◌, ℕ, suc, ◌+◌, ◌%◌, ◌<◌, true, false, ◌==◌, cond, nat_lt, List, [], ◌∷◌, get_or, sum_by, Option, Some, None}
+use Rattle.std.specs.Prelude.{◌≡◌, ◌⊎◌, ℕ, suc, ◌+◌, ◌%◌, ◌<◌, true, false, ◌==◌, cond, nat_lt, List, [], ◌∷◌, get_or, sum_by, take, replicate, Option, Some, None}
 use Rattle.cm_scan.specs.inlines.Delimiters.{Run}
-use Rattle.cm_inline.specs.Closers.{kinds_of_one, kinds_without_tildes}
-use Rattle.cm_inline.specs.steps.Entries.{Entry, answers}
+use Rattle.cm_inline.specs.Closers.{all_kinds, kinds_of_one, kinds_without_tildes}
+use Rattle.cm_inline.specs.steps.Entries.{Entry, Listed, reserve, answers}
 
 -- The kind of a closer: its character, whether it can also open, its whole length by 3; closers of tildes are of one kind.
 unfoldable pub kind : Run → ℕ
@@ -42,3 +42,12 @@ AreSound bottoms es = (c : Run) → IsMarked c → c.closes ≡ true → NoneBen
 -- how many characters are left in the entries
 abbrev pub characters : List Entry → ℕ
 characters = sum_by (λ e. e.run.left)
+
+-- The looks that were made and those that may still be made for the first kinds of closers, of which there is the given number: one for each character left
+-- besides.
+abbrev pub spent : (kinds : ℕ) → Listed → List ℕ → ℕ
+spent kinds l bottoms = l.looks + reserve (take kinds bottoms) l.entries + characters l.entries
+
+-- no bottom is known
+abbrev pub zeros : List ℕ
+zeros = replicate all_kinds 0

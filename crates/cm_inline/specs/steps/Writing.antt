@@ -29,11 +29,11 @@ mark_numbered marks n = get_or marks n no_mark
 
 -- the events of a mark alone, those of marks from a place of the source on, and those from a mark on
 abbrev pub mark_events : List ℕ → Targets → Reader → Mark → List Event
-mark_events source targets reader mark = part_events (runs_in reader.runs.runs.items) (pairs_in reader.runs.pairs.items) (part_of source targets reader.links.items mark)
+mark_events source targets reader mark = part_events (runs_in reader.runs.list.runs) (pairs_in reader.runs.pairs.items) (part_of source targets reader.links.items mark)
 
 abbrev pub events_from : List ℕ → Targets → Reader → (from : ℕ) → List Mark → List Event
 events_from source targets reader from marks =
-    events_of (runs_in reader.runs.runs.items) (pairs_in reader.runs.pairs.items) (parts_between source targets reader.links.items from (length source) marks)
+    events_of (runs_in reader.runs.list.runs) (pairs_in reader.runs.pairs.items) (parts_between source targets reader.links.items from (length source) marks)
 
 abbrev pub events_after : List ℕ → Targets → Reader → ℕ → List Event
 events_after source targets reader n = events_from source targets reader (mark_numbered reader.marks.items n).end (drop (n + 1) reader.marks.items)
@@ -77,19 +77,19 @@ mode_after links _ = Tags
 -- What is needed to write a mark.
 pub record IsMarkIn (source : List ℕ) (targets : Targets) (reader : Reader) (mark : Mark) : Type 0 where
   pub between : IsBetween source mark.at mark.end
-  pub kind : IsOfKind source targets reader.runs.runs.items reader.links.items mark.at mark.end mark.kind
-  pub chained : AreChained (runs_in reader.runs.runs.items) (pairs_in reader.runs.pairs.items)
+  pub kind : IsOfKind source targets reader.runs.list.runs reader.links.items mark.at mark.end mark.kind
+  pub chained : AreChained (runs_in reader.runs.list.runs) (pairs_in reader.runs.pairs.items)
 
 -- What events add to a page is what is added to some HTML, among tags, by the marks from a place on.
 pub record GoesOn (source : List ℕ) (targets : Targets) (reader : Reader) (before : Page) (events : List Event) (html : List ℕ) (next : Place) : Type 0 where
-  pub laid : AreLaid false source targets reader.runs.runs.items reader.links.items next.from (length source) (drop next.mark reader.marks.items)
+  pub laid : AreLaid false source targets reader.runs.list.runs reader.links.items next.from (length source) (drop next.mark reader.marks.items)
   pub same : write_all before events ≡ write_all (page html Tags) (events_from source targets reader next.from (drop next.mark reader.marks.items))
 
 -- The text from a place on up to the next mark waits: with it, the HTML is that of the marks before it.
 pub record TextWaits (source : List ℕ) (targets : Targets) (reader : Reader) (old html : List ℕ) (next : Place) : Type 0 where
   pub place : ℕ
   pub between : IsBetween source next.from place
-  pub laid : AreLaid false source targets reader.runs.runs.items reader.links.items place (length source) (drop next.mark reader.marks.items)
+  pub laid : AreLaid false source targets reader.runs.list.runs reader.links.items place (length source) (drop next.mark reader.marks.items)
   pub same : write_all (page old Tags) (events_in source targets reader)
       ≡ write_all (page (html ++ slice_range source next.from place) Tags) (events_from source targets reader place (drop next.mark reader.marks.items))
 
@@ -101,6 +101,6 @@ pub record IsImageAt (source : List ℕ) (targets : Targets) (reader : Reader) (
 
 -- It is written up to a place before a mark.
 pub record IsWrittenTo (source : List ℕ) (targets : Targets) (reader : Reader) (old html : List ℕ) (start link from at : ℕ) : Type 0 where
-  pub laid : AreLaid false source targets reader.runs.runs.items reader.links.items from (length source) (drop at reader.marks.items)
+  pub laid : AreLaid false source targets reader.runs.list.runs reader.links.items from (length source) (drop at reader.marks.items)
   pub same : write_all (page old (Alternative link)) (events_after source targets reader start)
       ≡ write_all (page html (Alternative link)) (events_from source targets reader from (drop at reader.marks.items))

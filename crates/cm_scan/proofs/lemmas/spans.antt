@@ -11,3 +11,5 @@ pub mod FollowedAutolinks
 pub mod CodeSpanGoesOn
 pub mod BacktickStrings
 pub mod AngledGoesOn
+pub mod ReachLemmas
+pub mod RawHtmlLacksItsEnd

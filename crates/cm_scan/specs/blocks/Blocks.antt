@@ -3,7 +3,7 @@
 use Rattle.std.specs.Prelude.{ℕ, zero, suc, ◌+◌, ◌-◌, Bool, true, false, not, ◌&&◌, List, [], ◌∷◌, ◌++◌, length, Option, Some, None, ◌==◌, nat_lt, nat_le, if◌then◌else◌}
 use Rattle.std.specs.List.{flat_map, position}
 use Rattle.std.specs.Option.{option_map}
-use Rattle.cm_text.specs.Bytes.{line_feed}
+use Rattle.std.specs.Str.{byte}
 use Rattle.cm_text.specs.Rules.{Rules}
 use Rattle.cm_text.specs.Lines.{LineView}
 use Rattle.cm_text.specs.Indentation.{indent_of, strip_columns}
@@ -15,13 +15,13 @@ use Rattle.cm_scan.specs.blocks.Lines.{is_blank, content_of, with_ending, size}
 use Rattle.cm_scan.specs.blocks.LineForms.{Fence, is_closing_fence, ItemMarker}
 use Rattle.cm_scan.specs.blocks.HtmlBlocks.{HtmlKind, is_html_end, ends_at_blank_line}
 use Rattle.cm_scan.specs.inlines.Links.{LinkDefinition, definitions_of}
-use Rattle.cm_scan.specs.blocks.Starts.{Start, IndentedCode, QuoteMarker, AtxHeading, OpeningFence, HtmlStart, BreakLine, ItemStart, TextLine, start_of, interrupts_paragraph, underline_of, Continuation, Stays, StaysIfOpen, Leaves, behind_quote_marker, continuation_in_quote, content_column, first_content, continuation_in_item}
+use Rattle.cm_scan.specs.blocks.Starts.{Start, IndentedCode, QuoteMarker, AtxHeading, OpeningFence, HtmlStart, BreakLine, ItemStart, TextLine, start_of, interrupts_paragraph, underline_of, Continuation, Stays, StaysIfOpen, Leaves, after_quote_marker, continuation_in_quote, content_column, first_content, continuation_in_item}
 use Rattle.cm_scan.specs.blocks.Parts.{info_of, LeafPart, paragraph, heading, code, html, thematic_break, definition, Parts, none, blank, leaf, quote, leaves_paragraph_open, put_item, put_leaves, blocks_of_parts, line_owners, depths_of, table_of}
 
 -- the source of a run of text with one more line, without its leading spaces and tabs (4.8 Paragraphs)
 abbrev pub add_text : List ℕ → LineView → List ℕ
 add_text [] line = content_of line
-add_text (b ∷ bs) line = (b ∷ bs) ++ line_feed ∷ content_of line
+add_text (b ∷ bs) line = (b ∷ bs) ++ byte "\n" ∷ content_of line
 
 -- what is left of a run of text after the definitions at its start; the spaces and tabs at its end are removed
 unfoldable pub rest_of : List ℕ → List ℕ
@@ -33,16 +33,11 @@ pub data NextLine : Type 0 where
   Ends : NextLine
   Underlines : ℕ → NextLine
 
--- a line that interrupts the run, or continues it
-abbrev pub by_interruption : Bool → NextLine
-by_interruption true = Ends
-by_interruption false = GoesOn
-
 -- the same, given the level of the underline, whether there is text above it, and whether the line interrupts
 abbrev pub by_underline : Option ℕ → (something_left interrupts : Bool) → NextLine
 by_underline (Some level) true interrupts = Underlines level
-by_underline (Some level) false interrupts = by_interruption interrupts
-by_underline None something_left interrupts = by_interruption interrupts
+by_underline (Some level) false interrupts = if interrupts then Ends else GoesOn
+by_underline None something_left interrupts = if interrupts then Ends else GoesOn
 
 -- What the next line is to a run of text. An underline takes precedence over a thematic break and an item, and it needs text above
 -- it that is no definition (4.3 Setext headings, 4.8 Paragraphs).
@@ -70,7 +65,7 @@ text_run rules source (line ∷ lines) = elim (next_line rules source line) [
 -- how many line feeds a text has
 unfoldable pub line_feeds : List ℕ → ℕ
 line_feeds [] = 0
-line_feeds (b ∷ bs) = if b == line_feed then suc (line_feeds bs) else line_feeds bs
+line_feeds (b ∷ bs) = if b == byte "\n" then suc (line_feeds bs) else line_feeds bs
 
 -- how many lines a text has, separated by line feeds
 abbrev pub line_count : List ℕ → ℕ
@@ -182,7 +177,7 @@ module _ (rules : Rules) (parts : List LineView → Parts) where
   -- a block quote, and what follows it (5.1 Block quotes)
   unfoldable pub quote_parts : LineView → List LineView → Parts
   quote_parts line lines =
-      let i = inside (λ bare l. continuation_in_quote rules l) (behind_quote_marker line ∷ []) lines in
+      let i = inside (λ bare l. continuation_in_quote rules l) (after_quote_marker line ∷ []) lines in
       quote (parts i.inner) (parts i.following)
 
   -- a list item, and what follows it (5.2 List items, 5.3 Lists)

@@ -1,10 +1,11 @@
 -- HTML blocks: the seven start conditions, and what ends each (CommonMark 0.31.2, 4.6 HTML blocks). A start is read after the
 -- indentation of the line.
-use Rattle.std.specs.Prelude.{ℕ, Bool, true, false, not, ◌&&◌, ◌||◌, List, [], ◌∷◌, ◌++◌, Option, Some, None, ◌==◌, map, codes, if◌then◌else◌}
+use Rattle.std.specs.Prelude.{ℕ, Bool, true, false, not, ◌&&◌, ◌||◌, List, [], ◌∷◌, ◌++◌, Option, Some, None, ◌==◌, codes, if◌then◌else◌}
 use Rattle.std.specs.List.{list_any}
-use Rattle.cm_text.specs.Bytes.{less_than, greater_than}
+use Rattle.std.specs.Char.{is_ascii_alphabetic}
+use Rattle.std.specs.Str.{byte, str_to_ascii_lowercase}
 use Rattle.cm_text.specs.Rules.{Rules}
-use Rattle.cm_scan.specs.Words.{is_space_or_tab, is_letter, is_blank_text, after_word, is_at_word, holds_word, is_among, to_lower, given, ◌<|>◌}
+use Rattle.cm_scan.specs.Words.{is_space_or_tab, is_blank_text, after_word, is_at_word, holds_word, is_among, given, ◌<|>◌}
 use Rattle.cm_scan.specs.spans.Tags.{tag_name, open_tag, closing_tag}
 
 -- the seven kinds of HTML blocks, in the specification's order
@@ -16,10 +17,6 @@ pub data HtmlKind : Type 0 where
   CharacterData : HtmlKind
   BlockTag : HtmlKind
   AnyTag : HtmlKind
-
--- a text in lower case, since names are compared case-insensitively
-abbrev pub lower : List ℕ → List ℕ
-lower text = map to_lower text
 
 -- the elements whose text is not markup
 abbrev pub raw_text_names : List (List ℕ)
@@ -49,7 +46,7 @@ block_names rules = block_name_by rules ∷ common_block_names
 -- a space, a tab, the end of the line or `>` comes next
 abbrev pub is_at_name_end : List ℕ → Bool
 is_at_name_end [] = true
-is_at_name_end (b ∷ bs) = is_space_or_tab b || b == greater_than
+is_at_name_end (b ∷ bs) = is_space_or_tab b || b == byte ">"
 
 -- the same, or `/>`
 abbrev pub is_at_tag_end : List ℕ → Bool
@@ -57,16 +54,16 @@ is_at_tag_end text = is_at_name_end text || is_at_word (codes "/>") text
 
 -- a word, and then the end of a name
 abbrev pub is_named_start : List ℕ → List ℕ → Bool
-is_named_start text name = elim (after_word (less_than ∷ name) text) [ Some rest ↦ is_at_name_end rest | None ↦ false ]
+is_named_start text name = elim (after_word (byte "<" ∷ name) text) [ Some rest ↦ is_at_name_end rest | None ↦ false ]
 
 -- condition 1: `<pre`, `<script`, `<style` or `<textarea`
 unfoldable pub is_raw_text_start : List ℕ → Bool
-is_raw_text_start text = list_any (λ name. is_named_start (lower text) name) raw_text_names
+is_raw_text_start text = list_any (λ name. is_named_start (str_to_ascii_lowercase text) name) raw_text_names
 
 -- condition 4: `<!` and an ASCII letter
 abbrev pub is_at_letter : List ℕ → Bool
 is_at_letter [] = false
-is_at_letter (b ∷ bs) = is_letter b
+is_at_letter (b ∷ bs) = is_ascii_alphabetic b
 
 -- the same, after `<!`
 unfoldable pub is_declaration_start : List ℕ → Bool
@@ -76,7 +73,7 @@ is_declaration_start text = elim (after_word (codes "<!") text) [ Some rest ↦ 
 unfoldable pub is_block_tag_start : Rules → List ℕ → Bool
 is_block_tag_start rules text = elim (after_word (codes "</") text <|> after_word (codes "<") text) [
   | Some inside ↦ elim (tag_name inside) [
-    | Some tag ↦ is_among (block_names rules) (lower tag.name) && is_at_tag_end tag.rest
+    | Some tag ↦ is_among (block_names rules) (str_to_ascii_lowercase tag.name) && is_at_tag_end tag.rest
     | None ↦ false
   ]
   | None ↦ false
@@ -88,7 +85,7 @@ unfoldable pub is_any_tag_start : List ℕ → Bool
 is_any_tag_start text = elim (closing_tag text) [
   | Some tag ↦ is_blank_text tag.rest
   | None ↦ elim (open_tag text) [
-    | Some tag ↦ is_blank_text tag.rest && not (is_among raw_text_names (lower tag.name))
+    | Some tag ↦ is_blank_text tag.rest && not (is_among raw_text_names (str_to_ascii_lowercase tag.name))
     | None ↦ false
   ]
 ]
@@ -97,7 +94,7 @@ is_any_tag_start text = elim (closing_tag text) [
 -- has `search` among its names, or `source` with the older rules.
 unfoldable pub html_start : Rules → List ℕ → Option HtmlKind
 html_start rules [] = None
-html_start rules (b ∷ bs) = elim (b == less_than && rules.raw_html) [
+html_start rules (b ∷ bs) = elim (b == byte "<" && rules.raw_html) [
   | true ↦ given (is_raw_text_start (b ∷ bs)) RawText
       <|> given (is_at_word (codes "<!--") (b ∷ bs)) Comment
       <|> given (is_at_word (codes "<?") (b ∷ bs)) Instruction
@@ -110,13 +107,12 @@ html_start rules (b ∷ bs) = elim (b == less_than && rules.raw_html) [
 
 -- a line, the first or a later one, meets the end condition; the last two kinds have none
 unfoldable pub is_html_end : HtmlKind → List ℕ → Bool
-is_html_end RawText text = list_any (λ name. holds_word (codes "</" ++ name ++ codes ">") (lower text)) raw_text_names
+is_html_end RawText text = list_any (λ name. holds_word (codes "</" ++ name ++ codes ">") (str_to_ascii_lowercase text)) raw_text_names
 is_html_end Comment text = holds_word (codes "-->") text
 is_html_end Instruction text = holds_word (codes "?>") text
 is_html_end Declaration text = holds_word (codes ">") text
 is_html_end CharacterData text = holds_word (codes "]]>") text
-is_html_end BlockTag text = false
-is_html_end AnyTag text = false
+is_html_end _ text = false
 
 -- a blank line ends the block: kinds 6 and 7
 abbrev pub ends_at_blank_line : HtmlKind → Bool

@@ -1,7 +1,7 @@
 -- The parts that the lines of a document form, in order (CommonMark 0.31.2, chapters 3 and 5). They determine the tree of blocks, the
 -- owner of each line, whether a paragraph is left open, and how deep each line is nested.
 use Rattle.std.specs.Prelude.{ℕ, suc, ◌+◌, Bool, true, false, not, ◌&&◌, ◌||◌, List, [], ◌∷◌, ◌++◌, nat_lt, Option, Some, None, map, replicate, if◌then◌else◌}
-use Rattle.cm_text.specs.Bytes.{space}
+use Rattle.std.specs.Str.{byte}
 use Rattle.cm_text.specs.Rules.{Rules}
 use Rattle.cm_text.specs.Unescaping.{unescape}
 use Rattle.cm_tree.specs.declared.tree.Block.{Block}
@@ -17,7 +17,7 @@ use Rattle.cm_scan.specs.blocks.LineForms.{is_same_kind}
 
 -- a line feed, a form feed or a carriage return as a space
 abbrev pub as_space : ℕ → ℕ
-as_space b = if is_line_space b then space else b
+as_space b = if is_line_space b then byte " " else b
 
 -- The info string of a code block, given its source: backslash escapes and references are resolved (2.4 Backslash escapes, 2.5 Entity
 -- and numeric character references). Without raw HTML in the rules each line feed, form feed and carriage return in it is a space, so

@@ -1,7 +1,7 @@
 -- The atoms of a leaf's source (CommonMark 0.31.2, chapter 6). Its lines are separated by line feeds. The byte at a place says
 -- what is tried there. If nothing fits, that byte is text.
 use Rattle.std.specs.Prelude.{ℕ, Bool, true, false, ◌&&◌, ◌||◌, ◌==◌, nat_le, if◌then◌else◌, List, [], ◌∷◌, drop, reverse, replicate, slice_get, Option, Some, None, codes, chars, encode_utf8_all}
-use Rattle.cm_text.specs.Bytes.{line_feed, space, exclamation_mark, ampersand, asterisk, less_than, left_bracket, backslash, right_bracket, underscore, backtick, tilde}
+use Rattle.std.specs.Str.{byte}
 use Rattle.cm_text.specs.Rules.{Rules}
 use Rattle.cm_text.specs.References.{reference}
 use Rattle.cm_text.specs.Unescaping.{escape}
@@ -33,7 +33,7 @@ read atom rest = Some (record { atom = atom; rest = rest })
 unfoldable pub backtick_atom : List ℕ → Option AtomRead
 backtick_atom text = elim (code_span text) [
   | Some span ↦ read (Whole (Code span.text)) span.rest
-  | None ↦ read (Plain (replicate (run_length backtick text) backtick)) (after_run backtick text)
+  | None ↦ read (Plain (replicate (run_length (byte "`") text) (byte "`"))) (after_run (byte "`") text)
 ]
 
 abbrev pub link_of : Autolink → Inline
@@ -61,8 +61,8 @@ reference_atom text = elim (reference text) [ Some found ↦ read (Plain (encode
 -- A line ending with the spaces before it: a hard line break after two spaces or more, or else a soft one (6.7 Hard line breaks,
 -- 6.8 Soft line breaks).
 unfoldable pub break_atom : List ℕ → Option AtomRead
-break_atom text = elim (after_word (codes "\n") (after_run space text)) [
-  | Some rest ↦ read (Whole (if nat_le 2 (run_length space text) then Hard else Soft)) rest
+break_atom text = elim (after_word (codes "\n") (after_run (byte " ") text)) [
+  | Some rest ↦ read (Whole (if nat_le 2 (run_length (byte " ") text) then Hard else Soft)) rest
   | None ↦ None
 ]
 
@@ -90,9 +90,9 @@ run_atom rules before character text =
 
 -- With strikethrough a run of exactly two tildes is a delimiter run; each other run of tildes is text.
 unfoldable pub tilde_atom : Rules → (before : List ℕ) → List ℕ → Option AtomRead
-tilde_atom rules before text = elim (rules.strike && run_length tilde text == 2) [
-  | true ↦ run_atom rules before tilde text
-  | false ↦ read (Plain (replicate (run_length tilde text) tilde)) (after_run tilde text)
+tilde_atom rules before text = elim (rules.strike && run_length (byte "~") text == 2) [
+  | true ↦ run_atom rules before (byte "~") text
+  | false ↦ read (Plain (replicate (run_length (byte "~") text) (byte "~"))) (after_run (byte "~") text)
 ]
 
 -- `![`, the opener of an image (6.4 Images)
@@ -103,21 +103,21 @@ bang_atom text = elim (after_word (codes "![") text) [ Some rest ↦ read (OpenB
 -- ending may follow
 abbrev pub is_markup : ℕ → Bool
 is_markup b =
-    b == line_feed || b == space || b == exclamation_mark || b == ampersand || b == asterisk || b == less_than || b == left_bracket
-    || b == backslash || b == right_bracket || b == underscore || b == backtick || b == tilde
+    b == byte "\n" || b == byte " " || b == byte "!" || b == byte "&" || b == byte "*" || b == byte "<" || b == byte "["
+    || b == byte "\\" || b == byte "]" || b == byte "_" || b == byte "`" || b == byte "~"
 
 -- the atom that such a byte starts, if it starts one
 unfoldable pub markup_atom : Rules → (before : List ℕ) → ℕ → List ℕ → Option AtomRead
 markup_atom rules before b bs =
-    if b == backtick then backtick_atom (b ∷ bs)
-    else if b == less_than then angle_atom rules (b ∷ bs)
-    else if b == backslash then backslash_atom (b ∷ bs)
-    else if b == ampersand then reference_atom (b ∷ bs)
-    else if b == line_feed || b == space then break_atom (b ∷ bs)
-    else if b == tilde then tilde_atom rules before (b ∷ bs)
-    else if b == exclamation_mark then bang_atom (b ∷ bs)
-    else if b == left_bracket then read (OpenBracket false) bs
-    else if b == right_bracket then read CloseBracket bs
+    if b == byte "`" then backtick_atom (b ∷ bs)
+    else if b == byte "<" then angle_atom rules (b ∷ bs)
+    else if b == byte "\\" then backslash_atom (b ∷ bs)
+    else if b == byte "&" then reference_atom (b ∷ bs)
+    else if b == byte "\n" || b == byte " " then break_atom (b ∷ bs)
+    else if b == byte "~" then tilde_atom rules before (b ∷ bs)
+    else if b == byte "!" then bang_atom (b ∷ bs)
+    else if b == byte "[" then read (OpenBracket false) bs
+    else if b == byte "]" then read CloseBracket bs
     else run_atom rules before b (b ∷ bs)
 
 -- the byte alone, as text

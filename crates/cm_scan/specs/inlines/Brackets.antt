@@ -1,13 +1,14 @@
 -- Links and images by their brackets (CommonMark 0.31.2, 6.3 Links, 6.4 Images). The items so far are in reverse.
 use Rattle.std.specs.Prelude.{ℕ, ◌-◌, Bool, true, false, not, ◌&&◌, ◌||◌, List, [], ◌∷◌, ◌++◌, length, take, reverse, Option, Some, None, codes, if◌then◌else◌}
-use Rattle.cm_text.specs.Bytes.{right_bracket}
+use Rattle.std.specs.Option.{option_map}
+use Rattle.std.specs.Str.{byte}
 use Rattle.cm_text.specs.Rules.{Rules}
 use Rattle.cm_text.specs.Addresses.{is_followed}
 use Rattle.cm_text.specs.Labels.{fold_label}
 use Rattle.cm_text.specs.Unescaping.{unescape}
 use Rattle.cm_tree.specs.Definitions.{Target, Targets, target_under}
 use Rattle.cm_tree.specs.declared.tree.Inline.TheVariants.{Link, Image}
-use Rattle.cm_scan.specs.Words.{is_empty, after_word}
+use Rattle.cm_scan.specs.Words.{is_empty, after_word, given, ◌<|>◌, ◌and_then◌}
 use Rattle.cm_scan.specs.spans.Tags.{is_blank_next, after_gap}
 use Rattle.cm_scan.specs.inlines.Links.{label, destination, title}
 use Rattle.cm_scan.specs.inlines.Pairing.{Item, Characters, Finished, Linked, Opener, bracket_text, emphasis_of}
@@ -23,10 +24,7 @@ link_end target rest = record { dest = target.0; title = target.1; rest = rest }
 
 -- the end of an inline link: a gap, and `)`; destination and title as they are written
 abbrev pub closed : (dest title : List ℕ) → List ℕ → Option LinkEnd
-closed dest title text = elim (after_word (codes ")") (after_gap text)) [
-  | Some rest ↦ Some (record { dest = unescape dest; title = unescape title; rest = rest })
-  | None ↦ None
-]
+closed dest title text = option_map (link_end (unescape dest, unescape title)) (after_word (codes ")") (after_gap text))
 
 -- after a destination: a title that a gap separates from it, or none, and the end
 unfoldable pub after_destination : (dest : List ℕ) → List ℕ → Option LinkEnd
@@ -39,12 +37,9 @@ after_destination dest text = elim (is_blank_next text) [
 -- link title, and a right parenthesis `)`. These four components may be separated by spaces, tabs, and up to one line ending. There
 -- is no title without a destination.
 unfoldable pub inline_end : List ℕ → Option LinkEnd
-inline_end text = elim (after_word (codes "(") text) [
-  | Some inside ↦ elim (destination (after_gap inside)) [
-    | Some d ↦ after_destination d.text d.rest
-    | None ↦ closed [] [] inside
-  ]
-  | None ↦ None
+inline_end text = after_word (codes "(") text and_then λ inside. elim (destination (after_gap inside)) [
+  | Some d ↦ after_destination d.text d.rest
+  | None ↦ closed [] [] inside
 ]
 
 -- the target of each folded label, if it is defined
@@ -60,10 +55,8 @@ target_of defined source = defined (fold_label source)
 
 -- the source between the brackets is a link label that matches a definition
 abbrev pub target_between : Defined → List ℕ → Option Target
-target_between defined source = elim (label (codes "[" ++ source ++ codes "]")) [
-  | Some l ↦ elim (is_empty l.rest) [ true ↦ target_of defined source | false ↦ None ]
-  | None ↦ None
-]
+target_between defined source = label (codes "[" ++ source ++ codes "]") and_then λ l.
+    elim (is_empty l.rest) [ true ↦ target_of defined source | false ↦ None ]
 
 -- A collapsed reference link consists of a link label that matches a link reference definition elsewhere in the document, followed
 -- by the string `[]`. A shortcut reference link is not followed by `[]` or a link label.
@@ -81,16 +74,13 @@ reference_end defined between text = elim (label text) [
 
 -- an end whose address the rules follow
 abbrev pub end_if_followed : Rules → Option LinkEnd → Option LinkEnd
-end_if_followed rules None = None
-end_if_followed rules (Some end) = elim (is_followed rules end.dest) [ true ↦ Some end | false ↦ None ]
+end_if_followed rules found = found and_then λ end. given (is_followed rules end.dest) end
 
 -- What follows a `]` with this source between it and its opener: the end of an inline link, or else a reference, if the rules follow its
 -- address (6.3 Links, 6.4 Images).
 unfoldable pub end_at : Rules → Defined → (between : List ℕ) → List ℕ → Option LinkEnd
-end_at rules defined between text = elim (end_if_followed rules (inline_end text)) [
-  | Some end ↦ Some end
-  | None ↦ end_if_followed rules (reference_end defined between text)
-]
+end_at rules defined between text =
+    end_if_followed rules (inline_end text) <|> end_if_followed rules (reference_end defined between text)
 
 -- what is before the nearest opener of a `]`, the opener with the source after it, and what is between them
 pub record OpenerFound : Type 0 where
@@ -140,7 +130,7 @@ source_up_to source left = take (length source - length left) source
 unfoldable pub closed_by_bracket : Rules → Defined → OpenerFound → List ℕ → Bracketed
 closed_by_bracket rules defined found rest = elim (not found.image && holds_link found.inside) [
   | true ↦ record { items = brackets_are_text found; rest = rest }
-  | false ↦ elim (end_at rules defined (source_up_to found.source (right_bracket ∷ rest)) rest) [
+  | false ↦ elim (end_at rules defined (source_up_to found.source (byte "]" ∷ rest)) rest) [
     | Some end ↦ record { items = made found.image end.dest end.title found.inside ∷ found.before; rest = end.rest }
     | None ↦ record { items = brackets_are_text found; rest = rest }
   ]

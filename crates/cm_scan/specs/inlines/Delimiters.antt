@@ -1,6 +1,6 @@
 -- Delimiter runs (CommonMark 0.31.2, 6.2 Emphasis and strong emphasis). Runs of two tildes are this project's own extension.
 use Rattle.std.specs.Prelude.{ℕ, ◌+◌, ◌%◌, Bool, true, false, not, ◌&&◌, ◌||◌, ◌==◌, Option, Some, None, if◌then◌else◌}
-use Rattle.cm_text.specs.Bytes.{underscore, tilde}
+use Rattle.std.specs.Str.{byte}
 use Rattle.cm_text.specs.Rules.{Rules}
 use Rattle.cm_text.specs.Characters.{is_space, is_punct_by}
 
@@ -37,7 +37,7 @@ is_right_flanking before after = is_left_flanking after before
 -- A run can open emphasis. Rules 1 and 5: a run of `*` can if it is left-flanking, and so can a run of `~`. Rules 2 and 6: a run
 -- of `_` can if it is left-flanking, and either not right-flanking or preceded by a Unicode punctuation character.
 abbrev pub may_open : ℕ → Neighbour → Neighbour → Bool
-may_open c before after = is_left_flanking before after && (not (c == underscore) || not (is_right_flanking before after) || is_punctuation before)
+may_open c before after = is_left_flanking before after && (not (c == byte "_") || not (is_right_flanking before after) || is_punctuation before)
 
 -- A run can close emphasis. Rules 3, 4, 7 and 8: it can if its mirror image can open emphasis.
 abbrev pub may_close : ℕ → Neighbour → Neighbour → Bool
@@ -64,7 +64,7 @@ is_both run = run.opens && run.closes
 unfoldable pub delimiters_match : Run → Run → Bool
 delimiters_match closer opener =
     closer.character == opener.character
-    && (closer.character == tilde
+    && (closer.character == byte "~"
     || not (is_both closer || is_both opener)
     || not (is_multiple_of_3 (closer.whole + opener.whole))
     || (is_multiple_of_3 closer.whole && is_multiple_of_3 opener.whole))

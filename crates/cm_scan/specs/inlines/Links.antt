@@ -2,9 +2,12 @@
 -- definitions). A text is a leaf's source: its lines are separated by line feeds.
 use Rattle.std.specs.Prelude.{ℕ, zero, suc, ◌-◌, Bool, true, false, not, ◌&&◌, ◌||◌, List, [], ◌∷◌, length, Option, Some, None, ◌==◌, nat_le, if◌then◌else◌, count_by, codes}
 use Rattle.std.specs.List.{list_all}
-use Rattle.cm_text.specs.Bytes.{line_feed, space, quotation_mark, apostrophe, left_parenthesis, right_parenthesis, less_than, greater_than, left_bracket, backslash, right_bracket}
-use Rattle.cm_text.specs.Characters.{within, is_ascii_punct}
-use Rattle.cm_scan.specs.Words.{is_control, is_empty, begins_with, trim_start, after_word, given, ◌<|>◌}
+use Rattle.std.specs.Option.{option_map}
+use Rattle.std.specs.Str.{byte}
+use Rattle.std.specs.Int.{is_in_range}
+use Rattle.std.specs.Char.{is_ascii_control}
+use Rattle.cm_text.specs.Characters.{is_ascii_punct}
+use Rattle.cm_scan.specs.Words.{is_empty, begins_with, trim_start, after_word, given, ◌<|>◌, ◌and_then◌}
 use Rattle.cm_scan.specs.spans.Tags.{is_blank_byte, is_blank_next, after_gap}
 
 -- a part of a text, as it is written, and what is left after it
@@ -13,33 +16,32 @@ pub record Reading : Type 0 where
   pub rest : List ℕ
 
 -- a byte added to the front of what was read
-abbrev pub behind : ℕ → Option Reading → Option Reading
-behind b None = None
-behind b (Some r) = Some (record { text = b ∷ r.text; rest = r.rest })
+abbrev pub beyond : ℕ → Option Reading → Option Reading
+beyond b None = None
+beyond b (Some r) = Some (record { text = b ∷ r.text; rest = r.rest })
 
 -- a reading that passes a test
 abbrev pub keep_if : (Reading → Bool) → Option Reading → Option Reading
-keep_if test None = None
-keep_if test (Some r) = given (test r) r
+keep_if test read = read and_then λ r. given (test r) r
 
 -- the byte escapes what follows it (2.4 Backslash escapes)
 abbrev pub escapes_next : ℕ → List ℕ → Bool
 escapes_next b [] = false
-escapes_next b (c ∷ cs) = b == backslash && is_ascii_punct c
+escapes_next b (c ∷ cs) = b == byte "\\" && is_ascii_punct c
 
 -- Up to the first byte that closes, which is removed; none if a forbidden byte comes before it. The mark says that the first byte
 -- is escaped: it neither closes nor is forbidden.
 unfoldable pub up_to_closing : (ℕ → Bool) → (ℕ → Bool) → (escaped : Bool) → List ℕ → Option Reading
 up_to_closing closes forbidden escaped [] = None
-up_to_closing closes forbidden true (b ∷ bs) = behind b (up_to_closing closes forbidden false bs)
+up_to_closing closes forbidden true (b ∷ bs) = beyond b (up_to_closing closes forbidden false bs)
 up_to_closing closes forbidden false (b ∷ bs) = elim (closes b) [
   | true ↦ Some (record { text = []; rest = bs })
-  | false ↦ elim (forbidden b) [ true ↦ None | false ↦ behind b (up_to_closing closes forbidden (escapes_next b bs) bs) ]
+  | false ↦ elim (forbidden b) [ true ↦ None | false ↦ beyond b (up_to_closing closes forbidden (escapes_next b bs) bs) ]
 ]
 
 -- how many characters a text has: each has one byte that isn't a continuation byte
 abbrev pub characters : List ℕ → ℕ
-characters text = count_by (λ b. not (within 128 191 b)) text
+characters text = count_by (λ b. not (is_in_range 128 191 b)) text
 
 -- at most 999 characters, at least one of them no space, tab or line ending
 abbrev pub is_label : Reading → Bool
@@ -50,23 +52,20 @@ is_label r = nat_le (characters r.text) 999 && not (list_all is_blank_byte r.tex
 -- not allowed inside. A link label can have at most 999 characters.
 unfoldable pub label : List ℕ → Option Reading
 label [] = None
-label (b ∷ bs) = elim (b == left_bracket) [
-  | true ↦ keep_if is_label (up_to_closing (λ c. c == right_bracket) (λ c. c == left_bracket) false bs)
-  | false ↦ None
-]
+label (b ∷ bs) = elim (b == byte "[") [ true ↦ keep_if is_label (up_to_closing (λ c. c == byte "]") (λ c. c == byte "[") false bs) | false ↦ None ]
 
 -- how many parentheses are open after a byte
 abbrev pub opened_by : ℕ → ℕ → ℕ
-opened_by opened b = if b == left_parenthesis then suc opened else (if b == right_parenthesis then opened - 1 else opened)
+opened_by opened b = if b == byte "(" then suc opened else (if b == byte ")" then opened - 1 else opened)
 
 -- Up to the first space, ASCII control character, or right parenthesis without a left one. None if a parenthesis is still open
 -- then, or more than 32 are open at once. The mark says that the first byte is escaped.
 unfoldable pub bare_run : ℕ → (escaped : Bool) → List ℕ → Option Reading
 bare_run opened escaped [] = given (opened == 0) (record { text = []; rest = [] })
-bare_run opened true (b ∷ bs) = behind b (bare_run opened false bs)
-bare_run opened false (b ∷ bs) = elim (b == space || is_control b || (b == right_parenthesis && opened == 0)) [
+bare_run opened true (b ∷ bs) = beyond b (bare_run opened false bs)
+bare_run opened false (b ∷ bs) = elim (b == byte " " || is_ascii_control b || (b == byte ")" && opened == 0)) [
   | true ↦ given (opened == 0) (record { text = []; rest = b ∷ bs })
-  | false ↦ elim (b == left_parenthesis && opened == 32) [ true ↦ None | false ↦ behind b (bare_run (opened_by opened b) (escapes_next b bs) bs) ]
+  | false ↦ elim (b == byte "(" && opened == 32) [ true ↦ None | false ↦ beyond b (bare_run (opened_by opened b) (escapes_next b bs) bs) ]
 ]
 
 abbrev pub is_filled : Reading → Bool
@@ -77,15 +76,15 @@ is_filled r = not (is_empty r.text)
 -- parentheses only if they are escaped or balanced, at most 32 deep.
 unfoldable pub destination : List ℕ → Option Reading
 destination [] = None
-destination (b ∷ bs) = elim (b == less_than) [
-  | true ↦ up_to_closing (λ c. c == greater_than) (λ c. c == less_than || c == line_feed) false bs
+destination (b ∷ bs) = elim (b == byte "<") [
+  | true ↦ up_to_closing (λ c. c == byte ">") (λ c. c == byte "<" || c == byte "\n") false bs
   | false ↦ keep_if is_filled (bare_run 0 false (b ∷ bs))
 ]
 
 -- two line endings with nothing but spaces and tabs between
 unfoldable pub has_blank_line : List ℕ → Bool
 has_blank_line [] = false
-has_blank_line (b ∷ bs) = (b == line_feed && begins_with line_feed (trim_start bs)) || has_blank_line bs
+has_blank_line (b ∷ bs) = (b == byte "\n" && begins_with (byte "\n") (trim_start bs)) || has_blank_line bs
 
 abbrev pub has_no_blank_line : Reading → Bool
 has_no_blank_line r = not (has_blank_line r.text)
@@ -93,10 +92,9 @@ has_no_blank_line r = not (has_blank_line r.text)
 -- the title that a byte starts: between `"`, between `'`, or between `(` and `)`
 unfoldable pub title_in : ℕ → List ℕ → Option Reading
 title_in b text =
-    if b == quotation_mark then up_to_closing (λ c. c == quotation_mark) (λ c. false) false text
-    else (if b == apostrophe then up_to_closing (λ c. c == apostrophe) (λ c. false) false text
-    else (if b == left_parenthesis then up_to_closing (λ c. c == right_parenthesis) (λ c. c == left_parenthesis) false text
-    else None))
+    if b == byte "\"" then up_to_closing (λ c. c == byte "\"") (λ c. false) false text
+    else if b == byte "'" then up_to_closing (λ c. c == byte "'") (λ c. false) false text
+    else if b == byte "(" then up_to_closing (λ c. c == byte ")") (λ c. c == byte "(") false text else None
 
 -- A link title is between `"`, between `'`, or between `(` and `)`. Although link titles may span multiple lines, they may not
 -- contain a blank line.
@@ -113,15 +111,14 @@ pub record LinkDefinition : Type 0 where
 
 abbrev pub at_line_end : List ℕ → Option (List ℕ)
 at_line_end [] = Some []
-at_line_end (b ∷ bs) = given (b == line_feed) bs
+at_line_end (b ∷ bs) = given (b == byte "\n") bs
 
 -- after the end of the line, if only spaces and tabs come before that
 unfoldable pub after_line : List ℕ → Option (List ℕ)
 after_line text = at_line_end (trim_start text)
 
 abbrev pub defined : List ℕ → List ℕ → List ℕ → Option (List ℕ) → Option LinkDefinition
-defined label dest title None = None
-defined label dest title (Some rest) = Some (record { label = label; dest = dest; title = title; rest = rest })
+defined label dest title rest = option_map (λ r. record { label = label; dest = dest; title = title; rest = r }) rest
 
 -- after a destination: a title, separated from it by spaces, tabs or a line ending, and the end of its line
 unfoldable pub titled : List ℕ → List ℕ → List ℕ → Option LinkDefinition
@@ -138,16 +135,8 @@ untitled label dest text = defined label dest [] (after_line text)
 -- ending), a link destination, optional spaces or tabs (including up to one line ending), and an optional link title, which if it
 -- is present must be separated from the link destination by spaces or tabs. No further character may occur.
 unfoldable pub link_definition : List ℕ → Option LinkDefinition
-link_definition text = elim (label text) [
-  | Some l ↦ elim (after_word (codes ":") l.rest) [
-    | Some behind_colon ↦ elim (destination (after_gap behind_colon)) [
-      | Some d ↦ titled l.text d.text d.rest <|> untitled l.text d.text d.rest
-      | None ↦ None
-    ]
-    | None ↦ None
-  ]
-  | None ↦ None
-]
+link_definition text = label text and_then λ l. after_word (codes ":") l.rest and_then λ rest. destination (after_gap rest) and_then λ d.
+    titled l.text d.text d.rest <|> untitled l.text d.text d.rest
 
 -- the definitions at the start of a text, one after another, and what is left of it
 pub record Definitions : Type 0 where

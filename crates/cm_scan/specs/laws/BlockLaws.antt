@@ -9,7 +9,7 @@ use Rattle.cm_scan.specs.Words.{is_space_or_tab}
 use Rattle.cm_scan.specs.blocks.Lines.{is_blank, content_of, with_ending}
 use Rattle.cm_scan.specs.blocks.LineForms.{underline, Fence, ItemMarker, marker_width, is_same_kind}
 use Rattle.cm_scan.specs.blocks.HtmlBlocks.{HtmlKind, is_html_end, ends_at_blank_line}
-use Rattle.cm_scan.specs.blocks.Starts.{start_of_content, start_of, underline_of, behind_quote_marker, content_column, first_content}
+use Rattle.cm_scan.specs.blocks.Starts.{start_of_content, start_of, underline_of, after_quote_marker, content_column, first_content}
 use Rattle.cm_scan.specs.blocks.Parts.{Parts, blank, list, ItemParts, last_item, item, next_items, put_item}
 use Rattle.cm_scan.specs.blocks.Blocks.{add_text, GoesOn, Ends, Underlines, next_line, text_run, taken, closes_fence, fenced, html_lines}
 
@@ -40,11 +40,11 @@ after_columns n text line = record { column = line.column + n; text = text; lazy
 
 -- After `>` and a space the rest of the line is inside the block quote.
 abbrev pub QuoteAndSpace : Type 0
-QuoteAndSpace = (line : LineView) (text : List ℕ) → line.text ≡ 62 ∷ 32 ∷ text → behind_quote_marker line ≡ after_columns 2 text line
+QuoteAndSpace = (line : LineView) (text : List ℕ) → line.text ≡ 62 ∷ 32 ∷ text → after_quote_marker line ≡ after_columns 2 text line
 
 -- After `>` alone an empty line is inside the block quote.
 abbrev pub QuoteAlone : Type 0
-QuoteAlone = (line : LineView) → line.text ≡ 62 ∷ [] → behind_quote_marker line ≡ after_columns 1 [] line
+QuoteAlone = (line : LineView) → line.text ≡ 62 ∷ [] → after_quote_marker line ≡ after_columns 1 [] line
 
 -- the content of an item starts one column after the marker, and this is its first line
 abbrev pub ContentAt : ItemMarker → LineView → LineView → Type 0

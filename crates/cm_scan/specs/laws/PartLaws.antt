@@ -17,7 +17,7 @@ use Rattle.cm_scan.specs.blocks.Lines.{is_blank, content_of}
 use Rattle.cm_scan.specs.blocks.LineForms.{Heading, Fence, ItemMarker}
 use Rattle.cm_scan.specs.blocks.HtmlBlocks.{HtmlKind}
 use Rattle.cm_scan.specs.blocks.Parts.{info_of, code, html, heading, thematic_break, none, blank, leaf, quote, put_item, put_leaves, leaves_paragraph_open}
-use Rattle.cm_scan.specs.blocks.Starts.{Start, IndentedCode, QuoteMarker, AtxHeading, OpeningFence, HtmlStart, BreakLine, ItemStart, TextLine, start_of, Continuation, Stays, StaysIfOpen, Leaves, behind_quote_marker, continuation_in_quote, content_column, first_content, continuation_in_item}
+use Rattle.cm_scan.specs.blocks.Starts.{Start, IndentedCode, QuoteMarker, AtxHeading, OpeningFence, HtmlStart, BreakLine, ItemStart, TextLine, start_of, Continuation, Stays, StaysIfOpen, Leaves, after_quote_marker, continuation_in_quote, content_column, first_content, continuation_in_item}
 use Rattle.cm_scan.specs.blocks.Blocks.{text_run, leaves_of_run, fenced, html_lines, indented, code_line, inside, is_bare, parts_by_cases, parts_of, blocks_of, owners_of}
 
 -- No lines have no parts.
@@ -98,7 +98,7 @@ OneMoreStays = (rules : Rules) (continuation : Bool → LineView → Continuatio
 -- A block quote has the lines that stay in it; the others follow it (5.1 Block quotes).
 abbrev pub QuoteCase : Type 0
 QuoteCase = (rules : Rules) (line : LineView) (lines inner rest : List LineView) → Begins rules line QuoteMarker
-    → AllStay rules (λ bare l. continuation_in_quote rules l) (behind_quote_marker line ∷ []) lines inner
+    → AllStay rules (λ bare l. continuation_in_quote rules l) (after_quote_marker line ∷ []) lines inner
     → FirstLeaves rules (λ bare l. continuation_in_quote rules l) inner rest
     → parts_of rules (line ∷ lines ++ rest) ≡ quote (parts_of rules inner) (parts_of rules rest)
 

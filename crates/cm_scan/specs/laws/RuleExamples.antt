@@ -43,7 +43,7 @@ pub record RuleExamples : Type 0 where
   pub path : Safely (codes "[a](/b:c)") (Link (codes "/b:c") [] (says (codes "a")) ∷ [])
   pub reference : ReadsBy safe ((codes "a", (codes "data:b", [])) ∷ []) (codes "[a]") (says (codes "[a]"))
   pub full_reference : ReadsBy safe ((codes "a", (codes "data:b", [])) ∷ []) (codes "[c][a]") (says (codes "[c][a]"))
-  pub reference_behind_no_link : ReadsBy safe ((codes "a", (codes "/b", [])) ∷ []) (codes "[a](data:c)") (Link (codes "/b") [] (says (codes "a")) ∷ Text (codes "(data:c)") ∷ [])
+  pub reference_after_no_link : ReadsBy safe ((codes "a", (codes "/b", [])) ∷ []) (codes "[a](data:c)") (Link (codes "/b") [] (says (codes "a")) ∷ Text (codes "(data:c)") ∷ [])
   pub link_inside_what_is_none : Safely (codes "[a [b](/c)](data:d)") (Text (codes "[a ") ∷ Link (codes "/c") [] (says (codes "b")) ∷ Text (codes "](data:d)") ∷ [])
   pub info_over_lines : info_of safe (codes "a&#10;b&#12;c&#13;d e") ≡ codes "a b c d e"
   pub info_by_the_profile : info_of profile (codes "a&#10;b") ≡ codes "a\nb"

@@ -1,9 +1,10 @@
 -- Worked examples: raw HTML, autolinks and code spans.
-use Rattle.std.specs.Prelude.{◌≡◌, ℕ, List, [], codes, Some, None}
+use Rattle.std.specs.Prelude.{◌≡◌, ◌+◌, ◌*◌, ℕ, true, false, List, [], codes, Some, None}
 use Rattle.cm_text.specs.Rules.{profile, older_rules}
 use Rattle.cm_scan.specs.spans.RawHtml.{raw_html}
 use Rattle.cm_scan.specs.spans.Autolinks.{autolink}
 use Rattle.cm_scan.specs.spans.CodeSpans.{code_span}
+use Rattle.cm_scan.specs.spans.Reach.{html_reach, needed}
 
 -- by the rules that hold, and by the older ones
 abbrev pub Leaves : List ℕ → List ℕ → Type 0
@@ -85,3 +86,16 @@ pub record CodeSpanExamples : Type 0 where
   pub shorter_run_closes_nothing : code_span (codes "``a`") ≡ None
   pub longer_run_closes_nothing : code_span (codes "`a``") ≡ None
   pub no_backtick : code_span (codes "a`b`") ≡ None
+
+pub record ReachExamples : Type 0 where
+  pub up_to_its_end : html_reach false (codes "<a b>c") ≡ 8 * 4 + 2
+  pub quoted_bracket : html_reach false (codes "<a b='>'>c") ≡ 8 * 8 + 2
+  pub next_tag : html_reach false (codes "<a <b") ≡ 8 * 3 + 2
+  pub open_quotation : html_reach false (codes "<a ' <b>") ≡ 8 * 8 + 2
+  pub comment : html_reach false (codes "<!-- a <b") ≡ 16
+  pub open_comment : needed false (codes "<!-- a <b") ≡ 5
+  pub older_comment : html_reach true (codes "<!-- a -- b") ≡ 5 + 16
+  pub older_comment_needs_nothing : needed true (codes "<!-- a -- b") ≡ 0
+  pub declaration : needed false (codes "<!a b") ≡ 2
+  pub no_declaration : needed false (codes "<!1 b") ≡ 0
+  pub tag : needed false (codes "<a b") ≡ 0

@@ -1,5 +1,6 @@
 -- What starts with `<` in a leaf's source.
 use Rattle.std.specs.Prelude.{ℕ, ◌-◌, List, length, take, Option, Some, None}
+use Rattle.std.specs.Option.{option_map}
 use Rattle.cm_text.specs.Rules.{Rules}
 use Rattle.cm_scan.specs.inlines.Links.{Reading}
 use Rattle.cm_scan.specs.spans.RawHtml.{raw_html}
@@ -14,12 +15,9 @@ pub data Angled : Type 0 where
 unfoldable pub before : List ℕ → List ℕ → List ℕ
 before rest text = take (length text - length rest) text
 
--- raw HTML as it is written
-abbrev pub tagged : List ℕ → Option (List ℕ) → Option Angled
-tagged text None = None
-tagged text (Some rest) = Some (Tagged (record { text = before rest text; rest = rest }))
-
--- what a `<` starts: an autolink whose address the rules follow, or else raw HTML (6.5 Autolinks, 6.6 Raw
--- HTML)
+-- what a `<` starts: an autolink whose address the rules follow, or else raw HTML as it is written (6.5 Autolinks, 6.6 Raw HTML)
 unfoldable pub at_angle : Rules → List ℕ → Option Angled
-at_angle rules text = elim (followed_autolink rules text) [ Some link ↦ Some (Addressed link) | None ↦ tagged text (raw_html rules text) ]
+at_angle rules text = elim (followed_autolink rules text) [
+  | Some link ↦ Some (Addressed link)
+  | None ↦ option_map (λ rest. Tagged (record { text = before rest text; rest = rest })) (raw_html rules text)
+]

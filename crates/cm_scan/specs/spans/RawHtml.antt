@@ -1,23 +1,20 @@
 -- Raw HTML (CommonMark 0.31.2, 6.6 Raw HTML). Each reading gives what is left of the text after it. With the older rules the text
 -- of a comment doesn't start with `>` or `->`, doesn't end with `-`, and contains no `--`.
 use Rattle.std.specs.Prelude.{ℕ, Bool, true, false, List, [], ◌∷◌, Option, Some, None, codes}
+use Rattle.std.specs.Option.{option_map}
+use Rattle.std.specs.Char.{is_ascii_alphabetic}
 use Rattle.cm_text.specs.Rules.{Rules}
-use Rattle.cm_scan.specs.Words.{is_letter, after_word, ◌<|>◌}
-use Rattle.cm_scan.specs.spans.Tags.{Named, open_tag, closing_tag}
-
--- what is left after a tag
-abbrev pub behind_tag : Option Named → Option (List ℕ)
-behind_tag None = None
-behind_tag (Some tag) = Some tag.rest
+use Rattle.cm_scan.specs.Words.{after_word, ◌<|>◌}
+use Rattle.cm_scan.specs.spans.Tags.{open_tag, closing_tag}
 
 -- what is left after the first place of a nonempty word
-unfoldable pub behind_word : List ℕ → List ℕ → Option (List ℕ)
-behind_word word [] = None
-behind_word word (b ∷ bs) = elim (after_word word (b ∷ bs)) [ Some rest ↦ Some rest | None ↦ behind_word word bs ]
+unfoldable pub beyond_word : List ℕ → List ℕ → Option (List ℕ)
+beyond_word word [] = None
+beyond_word word (b ∷ bs) = elim (after_word word (b ∷ bs)) [ Some rest ↦ Some rest | None ↦ beyond_word word bs ]
 
 -- one string, and a text up to another
 unfoldable pub from_to : List ℕ → List ℕ → List ℕ → Option (List ℕ)
-from_to start end text = elim (after_word start text) [ Some inside ↦ behind_word end inside | None ↦ None ]
+from_to start end text = elim (after_word start text) [ Some inside ↦ beyond_word end inside | None ↦ None ]
 
 -- what is left after `>` or `->`, which end a comment directly after `<!--`
 unfoldable pub short_end : List ℕ → Option (List ℕ)
@@ -26,10 +23,10 @@ short_end inside = after_word (codes ">") inside <|> after_word (codes "->") ins
 -- After `<!--`. A comment consists of `<!-->`, `<!--->`, or `<!--`, a string of characters not including the string `-->`, and
 -- `-->`. With the older rules the first `--` belongs to the `-->` at the end, and neither `>` nor `->` comes next.
 unfoldable pub after_comment : Bool → List ℕ → Option (List ℕ)
-after_comment false inside = short_end inside <|> behind_word (codes "-->") inside
+after_comment false inside = short_end inside <|> beyond_word (codes "-->") inside
 after_comment true inside = elim (short_end inside) [
   | Some rest ↦ None
-  | None ↦ elim (behind_word (codes "--") inside) [ Some rest ↦ after_word (codes ">") rest | None ↦ None ]
+  | None ↦ elim (beyond_word (codes "--") inside) [ Some rest ↦ after_word (codes ">") rest | None ↦ None ]
 ]
 
 unfoldable pub comment : Bool → List ℕ → Option (List ℕ)
@@ -42,7 +39,7 @@ instruction text = from_to (codes "<?") (codes "?>") text
 -- after `<!`: an ASCII letter, and a text up to `>`
 unfoldable pub after_declaration : List ℕ → Option (List ℕ)
 after_declaration [] = None
-after_declaration (b ∷ bs) = elim (is_letter b) [ true ↦ behind_word (codes ">") bs | false ↦ None ]
+after_declaration (b ∷ bs) = elim (is_ascii_alphabetic b) [ true ↦ beyond_word (codes ">") bs | false ↦ None ]
 
 -- A declaration consists of the string `<!`, an ASCII letter, zero or more characters not including the character `>`, and the
 -- character `>`.
@@ -56,8 +53,8 @@ character_data text = from_to (codes "<![CDATA[") (codes "]]>") text
 -- An HTML tag consists of an open tag, a closing tag, an HTML comment, a processing instruction, a declaration, or a CDATA
 -- section. No text starts with two of them.
 unfoldable pub html_tag : Rules → List ℕ → Option (List ℕ)
-html_tag rules text = behind_tag (open_tag text) <|> behind_tag (closing_tag text) <|> comment rules.older text <|> instruction text
-    <|> declaration text <|> character_data text
+html_tag rules text = option_map (λ tag. tag.rest) (open_tag text) <|> option_map (λ tag. tag.rest) (closing_tag text)
+    <|> comment rules.older text <|> instruction text <|> declaration text <|> character_data text
 
 -- what is left after an HTML tag; with rules without raw HTML there is none
 unfoldable pub raw_html : Rules → List ℕ → Option (List ℕ)

@@ -1,15 +1,17 @@
 -- Tags of HTML (CommonMark 0.31.2, 6.6 Raw HTML). Each reading gives what is left of the text after it.
 use Rattle.std.specs.Prelude.{ℕ, zero, suc, Bool, true, false, not, ◌||◌, List, [], ◌∷◌, length, Option, Some, None, ◌==◌, if◌then◌else◌, codes}
-use Rattle.cm_scan.specs.Words.{is_space_or_tab, is_letter, is_digit, is_letter_or_digit, skip, front_of, trim_start, after_word}
-use Rattle.cm_text.specs.Bytes.{line_feed, quotation_mark, apostrophe, hyphen, full_stop, colon, less_than, equals_sign, greater_than, underscore, backtick}
+use Rattle.std.specs.Option.{option_map}
+use Rattle.std.specs.Str.{byte}
+use Rattle.std.specs.Char.{is_ascii_digit, is_ascii_alphabetic, is_ascii_alphanumeric}
+use Rattle.cm_scan.specs.Words.{is_space_or_tab, skip, front_of, trim_start, after_word, ◌and_then◌}
 
 -- a space, a tab, or a line feed, which is the line ending of a leaf's source
 abbrev pub is_blank_byte : ℕ → Bool
-is_blank_byte b = is_space_or_tab b || b == line_feed
+is_blank_byte b = is_space_or_tab b || b == byte "\n"
 
 abbrev pub after_line_ending : List ℕ → List ℕ
 after_line_ending [] = []
-after_line_ending (b ∷ bs) = if b == line_feed then trim_start bs else b ∷ bs
+after_line_ending (b ∷ bs) = if b == byte "\n" then trim_start bs else b ∷ bs
 
 -- what is left after spaces, tabs, and up to one line ending
 unfoldable pub after_gap : List ℕ → List ℕ
@@ -28,21 +30,21 @@ pub record Named : Type 0 where
 -- A tag name consists of an ASCII letter followed by zero or more ASCII letters, digits, or hyphens.
 unfoldable pub tag_name : List ℕ → Option Named
 tag_name [] = None
-tag_name (b ∷ bs) = elim (is_letter b) [
-  | true ↦ Some (record { name = b ∷ front_of (λ c. is_letter_or_digit c || c == hyphen) bs; rest = skip (λ c. is_letter_or_digit c || c == hyphen) bs })
+tag_name (b ∷ bs) = elim (is_ascii_alphabetic b) [
+  | true ↦ Some (record { name = b ∷ front_of (λ c. is_ascii_alphanumeric c || c == byte "-") bs; rest = skip (λ c. is_ascii_alphanumeric c || c == byte "-") bs })
   | false ↦ None
 ]
 
 -- An attribute name consists of an ASCII letter, `_`, or `:`, followed by zero or more ASCII letters, digits, `_`, `.`, `:`, or `-`.
 abbrev pub begins_attribute : ℕ → Bool
-begins_attribute b = is_letter b || b == underscore || b == colon
+begins_attribute b = is_ascii_alphabetic b || b == byte "_" || b == byte ":"
 
 abbrev pub continues_attribute : ℕ → Bool
-continues_attribute b = begins_attribute b || is_digit b || b == full_stop || b == hyphen
+continues_attribute b = begins_attribute b || is_ascii_digit b || b == byte "." || b == byte "-"
 
 -- An unquoted attribute value doesn't include spaces, tabs, line endings, `"`, `'`, `=`, `<`, `>`, or a backtick.
 abbrev pub is_unquoted : ℕ → Bool
-is_unquoted b = not (is_blank_byte b || b == quotation_mark || b == apostrophe || b == equals_sign || b == less_than || b == greater_than || b == backtick)
+is_unquoted b = not (is_blank_byte b || b == byte "\"" || b == byte "'" || b == byte "=" || b == byte "<" || b == byte ">" || b == byte "`")
 
 -- a value that this quotation mark ends
 unfoldable pub after_quoted : ℕ → List ℕ → Option (List ℕ)
@@ -55,10 +57,10 @@ after_unquoted text = skip is_unquoted text
 -- an attribute value: in double quotes, in single quotes, or unquoted, which has at least one character
 unfoldable pub after_value : List ℕ → Option (List ℕ)
 after_value [] = None
-after_value (b ∷ bs) = elim (b == quotation_mark) [
-  | true ↦ after_quoted quotation_mark bs
-  | false ↦ elim (b == apostrophe) [
-    | true ↦ after_quoted apostrophe bs
+after_value (b ∷ bs) = elim (b == byte "\"") [
+  | true ↦ after_quoted (byte "\"") bs
+  | false ↦ elim (b == byte "'") [
+    | true ↦ after_quoted (byte "'") bs
     | false ↦ elim (is_unquoted b) [ true ↦ Some (after_unquoted bs) | false ↦ None ]
   ]
 ]
@@ -66,7 +68,7 @@ after_value (b ∷ bs) = elim (b == quotation_mark) [
 -- An attribute value specification after a name: a gap, `=`, a gap and a value. If no `=` comes next, there is none.
 unfoldable pub after_specification : List ℕ → Option (List ℕ)
 after_specification text = elim (after_word (codes "=") (after_gap text)) [
-  | Some behind ↦ after_value (after_gap behind)
+  | Some after ↦ after_value (after_gap after)
   | None ↦ Some text
 ]
 
@@ -92,26 +94,15 @@ after_attributes (suc n) text = elim (after_tag_end (after_gap text)) [
 
 -- what is left after a tag whose name was read
 abbrev pub with_rest : List ℕ → Option (List ℕ) → Option Named
-with_rest name None = None
-with_rest name (Some rest) = Some (record { name = name; rest = rest })
+with_rest name rest = option_map (λ r. record { name = name; rest = r }) rest
 
 -- An open tag consists of a `<` character, a tag name, zero or more attributes, optional spaces, tabs, and up to one line
 -- ending, an optional `/` character, and a `>` character.
 unfoldable pub open_tag : List ℕ → Option Named
-open_tag text = elim (after_word (codes "<") text) [
-  | Some inside ↦ elim (tag_name inside) [
-    | Some tag ↦ with_rest tag.name (after_attributes (suc (length tag.rest)) tag.rest)
-    | None ↦ None
-  ]
-  | None ↦ None
-]
+open_tag text = after_word (codes "<") text and_then λ inside. tag_name inside and_then λ tag.
+    with_rest tag.name (after_attributes (suc (length tag.rest)) tag.rest)
 
 -- A closing tag consists of the string `</`, a tag name, optional spaces, tabs, and up to one line ending, and the character `>`.
 unfoldable pub closing_tag : List ℕ → Option Named
-closing_tag text = elim (after_word (codes "</") text) [
-  | Some inside ↦ elim (tag_name inside) [
-    | Some tag ↦ with_rest tag.name (after_word (codes ">") (after_gap tag.rest))
-    | None ↦ None
-  ]
-  | None ↦ None
-]
+closing_tag text = after_word (codes "</") text and_then λ inside. tag_name inside and_then λ tag.
+    with_rest tag.name (after_word (codes ">") (after_gap tag.rest))

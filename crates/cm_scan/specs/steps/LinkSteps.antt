@@ -1,8 +1,9 @@
 -- The steps that the scanners of link reference definitions take.
 use Rattle.std.specs.Prelude.{ℕ, suc, Bool, true, false, not, ◌&&◌, ◌||◌, List, drop, Option, Some, None, if◌then◌else◌, option_map, ◌==◌, nat_le, nat_lt, codes}
 use Rattle.std.specs.List.{slice_range, list_any}
-use Rattle.cm_text.specs.Characters.{within}
-use Rattle.cm_scan.specs.Words.{is_control, begins_with, trim_start}
+use Rattle.std.specs.Int.{is_in_range}
+use Rattle.std.specs.Char.{is_ascii_control}
+use Rattle.cm_scan.specs.Words.{begins_with, trim_start}
 use Rattle.cm_scan.specs.inlines.Links.{Reading, characters, has_no_blank_line}
 
 -- the part between two places, with a closing byte at the second
@@ -19,7 +20,7 @@ title_end b = if b == 34 then Some 34 else (if b == 39 then Some 39 else (if b =
 
 -- a byte that ends a bare destination
 abbrev pub ends_bare : ℕ → ℕ → Bool
-ends_bare opened b = b == 32 || is_control b || (b == 41 && opened == 0)
+ends_bare opened b = b == 32 || is_ascii_control b || (b == 41 && opened == 0)
 
 -- a byte that neither ends a bare destination, nor is a parenthesis, nor escapes anything
 abbrev pub is_plain_in_run : ℕ → Bool
@@ -27,7 +28,7 @@ is_plain_in_run b = nat_lt 32 b && not (b == 40) && not (b == 41) && not (b == 9
 
 -- a byte that starts a character
 abbrev pub begins_character : ℕ → Bool
-begins_character b = not (within 128 191 b)
+begins_character b = not (is_in_range 128 191 b)
 
 -- what a part between brackets may not hold unescaped
 abbrev pub is_barred : ℕ → (one_line : Bool) → ℕ → Bool

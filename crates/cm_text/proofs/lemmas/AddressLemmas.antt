@@ -1,8 +1,9 @@
 -- Where a scheme ends.
 use Rattle.std.proofs.Common.{◌≡◌, ℕ, Bool, true, false, ◌||◌, ◌==◌, Option, Some, None, List, [], ◌∷◌, get_or, length, ◌≤◌, take, subst, refl, arith}
 use Rattle.std.specs.List.{position, position_or_len}
+use Rattle.std.specs.Option.{option_map}
 use Rattle.std.proofs.lemmas.List.{get_or_past}
-use Rattle.cm_text.specs.Addresses.{begins_a_part, onto_scheme, address_scheme}
+use Rattle.cm_text.specs.Addresses.{begins_a_part, address_scheme}
 
 abbrev pub ends_scheme : ℕ → Bool
 ends_scheme b = b == 58 || begins_a_part b
@@ -15,7 +16,7 @@ unfolding address_scheme
 scheme-before [] = refl
 scheme-before (b ∷ bs) = at-end (scheme-before bs) (b == 58) (begins_a_part b) refl refl
   where
-    onto : (t : Bool) (scheme : List ℕ) → onto_scheme b (elim t [ true ↦ Some scheme | false ↦ None ]) ≡ elim t [ true ↦ Some (b ∷ scheme) | false ↦ None ]
+    onto : (t : Bool) (scheme : List ℕ) → option_map (λ s. b ∷ s) (elim t [ true ↦ Some scheme | false ↦ None ]) ≡ elim t [ true ↦ Some (b ∷ scheme) | false ↦ None ]
     onto true scheme = refl
     onto false scheme = refl
 
@@ -30,7 +31,7 @@ scheme-found bs at found =
     subst (λ n. address_scheme bs ≡ scheme_before n bs) place (scheme-before bs)
 
 pub scheme-none : (bs : List ℕ) → position ends_scheme bs ≡ None → address_scheme bs ≡ None
-scheme-none bs none = behind (position_or_len ends_scheme bs) (grind (arith, none)) (scheme-before bs)
+scheme-none bs none = beyond (position_or_len ends_scheme bs) (grind (arith, none)) (scheme-before bs)
   where
-    behind : (n : ℕ) → length bs ≤ n → address_scheme bs ≡ scheme_before n bs → address_scheme bs ≡ None
-    behind n long h = grind (arith, get_or_past bs n 0 long, h)
+    beyond : (n : ℕ) → length bs ≤ n → address_scheme bs ≡ scheme_before n bs → address_scheme bs ≡ None
+    beyond n long h = grind (arith, get_or_past bs n 0 long, h)

@@ -1,6 +1,7 @@
 -- Computing the definitions at literals.
 use Rattle.std.specs.Str.{chars}
 use Rattle.caseless.proofs.Computing.{caseless}
+use Rattle.cm_text.specs.Trims.{skip, trim_end_by}
 use Rattle.cm_text.specs.Labels.{case_fold, settle_gaps, fold_label}
 use Rattle.ucd_category.proofs.Computing.{ucd_category}
 use Rattle.cm_text.specs.Characters.{is_punct_by, is_space}
@@ -11,7 +12,7 @@ use lib.Utf8.{encode}
 
 -- `unfolding label_folding` lets `refl` compute what a short label is compared as
 unfoldable pub label_folding : Unit {0}
-unfolding caseless chars encode case_fold settle_gaps fold_label
+unfolding caseless chars encode case_fold skip trim_end_by settle_gaps fold_label
 label_folding = tt
 
 -- `unfolding character_kinds` lets it compute of which kind a character is

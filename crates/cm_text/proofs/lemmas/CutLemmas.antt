@@ -50,43 +50,43 @@ pub cut_text-append : (cut : Cut) (xs ys : List ℕ) → cut_more cut (text_of (
 cut_text-append cut xs ys = ap (cut_more cut) (text_of-append xs ys) ∙ cut_more-append cut (text_of xs) (text_of ys)
 
 -- the cut after lines that have ended before
-abbrev pub behind : List LineView → Cut → Cut
-behind front cut = record cut { ended = front ++ cut.ended }
+abbrev pub beyond : List LineView → Cut → Cut
+beyond front cut = record cut { ended = front ++ cut.ended }
 
-behind_step : (front : List LineView) (cut : Cut) (b : ℕ) → cut_byte (behind front cut) b ≡ behind front (cut_byte cut b)
-behind_step front cut b = by_tests (b == 10) (b == 13) cut.after_return
+beyond_step : (front : List LineView) (cut : Cut) (b : ℕ) → cut_byte (beyond front cut) b ≡ beyond front (cut_byte cut b)
+beyond_step front cut b = by_tests (b == 10) (b == 13) cut.after_return
   where
-    ends : (after_return : Bool) → end_line (behind front cut) after_return ≡ behind front (end_line cut after_return)
+    ends : (after_return : Bool) → end_line (beyond front cut) after_return ≡ beyond front (end_line cut after_return)
     ends after_return = ap (λ t. record { ended = t; partial = []; after_return = after_return }) (append_assoc front cut.ended (plain_line cut.partial ∷ []))
 
     by_tests : (feed return after_return : Bool)
-        → cond feed (cond after_return (record (behind front cut) { after_return = false }) (end_line (behind front cut) false)) (cond return (end_line (behind front cut) true) (went_on (behind front cut) (b ∷ [])))
-        ≡ behind front (cond feed (cond after_return (record cut { after_return = false }) (end_line cut false)) (cond return (end_line cut true) (went_on cut (b ∷ []))))
+        → cond feed (cond after_return (record (beyond front cut) { after_return = false }) (end_line (beyond front cut) false)) (cond return (end_line (beyond front cut) true) (went_on (beyond front cut) (b ∷ [])))
+        ≡ beyond front (cond feed (cond after_return (record cut { after_return = false }) (end_line cut false)) (cond return (end_line cut true) (went_on cut (b ∷ []))))
     by_tests true return true = refl
     by_tests true return false = ends false
     by_tests false true after_return = ends true
     by_tests false false after_return = refl
 
-pub cut_behind : (front : List LineView) (cut : Cut) (bs : List ℕ) → cut_more (behind front cut) bs ≡ behind front (cut_more cut bs)
-cut_behind front cut [] = refl
-cut_behind front cut (b ∷ bs) = ap (λ d. cut_more d bs) (behind_step front cut b) ∙ cut_behind front (cut_byte cut b) bs
+pub cut_after : (front : List LineView) (cut : Cut) (bs : List ℕ) → cut_more (beyond front cut) bs ≡ beyond front (cut_more cut bs)
+cut_after front cut [] = refl
+cut_after front cut (b ∷ bs) = ap (λ d. cut_more d bs) (beyond_step front cut b) ∙ cut_after front (cut_byte cut b) bs
 
 -- lines that have ended stay
 pub ended_stays : (cut : Cut) (bs : List ℕ) → IsFront cut.ended (cut_more cut bs).ended
 ended_stays cut bs =
     let bare : Cut = record cut { ended = [] } in
     let P : List LineView → Cut = λ t. cut_more (record cut { ended = t }) bs in
-    ((cut_more bare bs).ended, ap (λ (d : Cut). d.ended) (ap P (sym (append-nil cut.ended)) ∙ cut_behind cut.ended bare bs))
+    ((cut_more bare bs).ended, ap (λ (d : Cut). d.ended) (ap P (sym (append-nil cut.ended)) ∙ cut_after cut.ended bare bs))
 
 -- ---- the first line
 
 ends_step : (line : List ℕ) (b : ℕ) → is_line_ending b ≡ true
-    → cut_byte (record { ended = []; partial = line; after_return = false }) b ≡ behind (plain_line line ∷ []) (begun (b == 13))
+    → cut_byte (record { ended = []; partial = line; after_return = false }) b ≡ beyond (plain_line line ∷ []) (begun (b == 13))
 ends_step line b ends = by_tests (b == 10) (b == 13) refl refl ends
   where
     by_tests : (feed return : Bool) → (b == 10) ≡ feed → (b == 13) ≡ return → (feed || return) ≡ true
-        → cond feed (behind (plain_line line ∷ []) (begun false)) (cond return (behind (plain_line line ∷ []) (begun true)) (record { ended = []; partial = line ++ b ∷ []; after_return = false }))
-        ≡ behind (plain_line line ∷ []) (begun return)
+        → cond feed (beyond (plain_line line ∷ []) (begun false)) (cond return (beyond (plain_line line ∷ []) (begun true)) (record { ended = []; partial = line ++ b ∷ []; after_return = false }))
+        ≡ beyond (plain_line line ∷ []) (begun return)
     by_tests true true is also h = absurd (omega (arith, eqb-true b 10 is, eqb-true b 13 also))
     by_tests true false is also h = refl
     by_tests false true is also h = refl
@@ -94,10 +94,10 @@ ends_step line b ends = by_tests (b == 10) (b == 13) refl refl ends
 
 -- the line, what ends it, and the rest
 pub line_ends : (line : List ℕ) (b : ℕ) (rest : List ℕ) → is_line line ≡ true → is_line_ending b ≡ true
-    → cut_more (begun false) (line ++ b ∷ rest) ≡ behind (plain_line line ∷ []) (cut_more (begun (b == 13)) rest)
+    → cut_more (begun false) (line ++ b ∷ rest) ≡ beyond (plain_line line ∷ []) (cut_more (begun (b == 13)) rest)
 line_ends line b rest plain ends =
     cut_more-append (begun false) line (b ∷ rest) ∙ ap (λ d. cut_more d (b ∷ rest)) (line_put (begun false) line refl plain)
-    ∙ ap (λ d. cut_more d rest) (ends_step line b ends) ∙ cut_behind (plain_line line ∷ []) (begun (b == 13)) rest
+    ∙ ap (λ d. cut_more d rest) (ends_step line b ends) ∙ cut_after (plain_line line ∷ []) (begun (b == 13)) rest
 
 -- a text by a byte of it
 pub at_byte : (text : List ℕ) (at : ℕ) → at < length text → text ≡ take at text ++ get_or text at 0 ∷ drop (at + 1) text
@@ -105,7 +105,7 @@ at_byte text at within =
     sym (take-append-drop at text) ∙ ap (λ t. take at text ++ t) (drop-cons text at 0 within) ∙ ap (λ n. take at text ++ get_or text at 0 ∷ drop n text) (sym (add-one at))
 
 pub first_ends : (n : ℕ) (text : List ℕ) → IsFirstLine n text → n < length text
-    → cut_more (begun false) text ≡ behind (plain_line (take n text) ∷ []) (cut_more (begun (get_or text n 0 == 13)) (drop (n + 1) text))
+    → cut_more (begun false) text ≡ beyond (plain_line (take n text) ∷ []) (cut_more (begun (get_or text n 0 == 13)) (drop (n + 1) text))
 first_ends n text first within =
     ap (cut_more (begun false)) (at_byte text n within) ∙ line_ends (take n text) (get_or text n 0) (drop (n + 1) text) first.plain (first.ends within)
 

@@ -1,11 +1,12 @@
 -- Gaps of a text, settled from the left.
-use Rattle.std.proofs.Common.{◌≡◌, ◌≢◌, ◌==◌, ℕ, suc, ◌<◌, Bool, true, false, List, [], ◌∷◌, ◌++◌, length, get_or, refl, ap, sym, ◌∙◌, append_assoc, arith}
+use Rattle.std.proofs.Common.{◌≡◌, ◌≢◌, ◌==◌, ℕ, suc, ◌<◌, Bool, if◌then◌else◌, true, false, List, [], ◌∷◌, ◌++◌, length, get_or, refl, ap, sym, ◌∙◌, append_assoc, arith}
 use lib.Utf8.{encode}
 use Rattle.std.proofs.lemmas.Str.{inside_one, encode_ascii, length-encode, len_utf8_bounds}
 use Rattle.std.proofs.lemmas.List.{append-nil}
 use Rattle.std.proofs.lemmas.Bool.{and_parts, eqb-true}
 use Rattle.std.proofs.lemmas.Bool.Decides.{nat_tests}
-use Rattle.cm_text.specs.Labels.{is_gap, strip_leading, keep_before, strip_trailing, collapse_after, settle_gaps}
+use Rattle.cm_text.specs.Labels.{is_gap, collapse_after, settle_gaps}
+use Rattle.cm_text.specs.Trims.{skip, keep_byte, trim_end_by}
 use Rattle.cm_text.specs.steps.LabelSteps.{is_settled, put_after, settled_by}
 
 -- what a text gives of which a front has been read, where a gap was read last or wasn't
@@ -17,9 +18,9 @@ after after_gap (b ∷ bs) = elim (is_gap b) [
 ]
 
 -- a stripped text after a gap
-abbrev behind_gap : List ℕ → List ℕ
-behind_gap [] = []
-behind_gap (b ∷ bs) = 32 ∷ collapse_after true (b ∷ bs)
+abbrev beyond_gap : List ℕ → List ℕ
+beyond_gap [] = []
+beyond_gap (b ∷ bs) = 32 ∷ collapse_after true (b ∷ bs)
 
 after-gap : (g : Bool) (b : ℕ) (bs : List ℕ) → is_gap b ≡ true → after g (b ∷ bs) ≡ after true bs
 after-gap g b bs h = ap (λ t. elim t as (λ _. List ℕ) [ true ↦ after true bs | false ↦ elim g as (λ _. List ℕ) [ true ↦ 32 ∷ b ∷ after false bs | false ↦ b ∷ after false bs ] ]) h
@@ -27,53 +28,56 @@ after-gap g b bs h = ap (λ t. elim t as (λ _. List ℕ) [ true ↦ after true 
 after-text : (g : Bool) (b : ℕ) (bs : List ℕ) → is_gap b ≡ false → after g (b ∷ bs) ≡ elim g as (λ _. List ℕ) [ true ↦ 32 ∷ b ∷ after false bs | false ↦ b ∷ after false bs ]
 after-text g b bs h = ap (λ t. elim t as (λ _. List ℕ) [ true ↦ after true bs | false ↦ elim g as (λ _. List ℕ) [ true ↦ 32 ∷ b ∷ after false bs | false ↦ b ∷ after false bs ] ]) h
 
-collapse-gap : (g : Bool) (b : ℕ) (bs : List ℕ) → is_gap b ≡ true → collapse_after g (b ∷ bs) ≡ elim g as (λ _. List ℕ) [ true ↦ collapse_after true bs | false ↦ 32 ∷ collapse_after true bs ]
-collapse-gap g b bs h = ap (λ t. elim t as (λ _. List ℕ) [ true ↦ elim g as (λ _. List ℕ) [ true ↦ collapse_after true bs | false ↦ 32 ∷ collapse_after true bs ] | false ↦ b ∷ collapse_after false bs ]) h
+collapse-gap : (g : Bool) (b : ℕ) (bs : List ℕ) → is_gap b ≡ true → collapse_after g (b ∷ bs) ≡ (if g then collapse_after true bs else 32 ∷ collapse_after true bs)
+collapse-gap g b bs h = ap (λ t. if t then (if g then collapse_after true bs else 32 ∷ collapse_after true bs) else b ∷ collapse_after false bs) h
 
 collapse-text : (g : Bool) (b : ℕ) (bs : List ℕ) → is_gap b ≡ false → collapse_after g (b ∷ bs) ≡ b ∷ collapse_after false bs
-collapse-text g b bs h = ap (λ t. elim t as (λ _. List ℕ) [ true ↦ elim g as (λ _. List ℕ) [ true ↦ collapse_after true bs | false ↦ 32 ∷ collapse_after true bs ] | false ↦ b ∷ collapse_after false bs ]) h
+collapse-text g b bs h = ap (λ t. if t then (if g then collapse_after true bs else 32 ∷ collapse_after true bs) else b ∷ collapse_after false bs) h
 
-keep-gap : (b : ℕ) → is_gap b ≡ true → keep_before b [] ≡ []
-keep-gap b h = ap (λ t. elim t as (λ _. List ℕ) [ true ↦ [] | false ↦ b ∷ [] ]) h
+keep-gap : (b : ℕ) → is_gap b ≡ true → keep_byte is_gap b [] ≡ []
+keep-gap b h = ap (λ t. if t then [] else b ∷ []) h
 
-keep-text : (b : ℕ) (x : List ℕ) → is_gap b ≡ false → keep_before b x ≡ b ∷ x
-keep-text b [] h = ap (λ t. elim t as (λ _. List ℕ) [ true ↦ [] | false ↦ b ∷ [] ]) h
+keep-text : (b : ℕ) (x : List ℕ) → is_gap b ≡ false → keep_byte is_gap b x ≡ b ∷ x
+keep-text b [] h = ap (λ t. if t then [] else b ∷ []) h
 keep-text b (c ∷ cs) h = refl
 
 plain_is : (g : Bool) (b : ℕ) (bs : List ℕ) (x : List ℕ) → is_gap b ≡ g
-    → after false bs ≡ collapse_after false x → after true bs ≡ behind_gap x
-    → after false (b ∷ bs) ≡ collapse_after false (keep_before b x)
+    → after false bs ≡ collapse_after false x → after true bs ≡ beyond_gap x
+    → after false (b ∷ bs) ≡ collapse_after false (keep_byte is_gap b x)
 plain_is true b bs [] g p q = after-gap false b bs g ∙ q ∙ sym (ap (λ t. collapse_after false t) (keep-gap b g))
 plain_is true b bs (c ∷ cs) g p q = after-gap false b bs g ∙ q ∙ sym (collapse-gap false b (c ∷ cs) g)
 plain_is false b bs x g p q = after-text false b bs g ∙ ap (λ t. b ∷ t) p ∙ sym (ap (λ t. collapse_after false t) (keep-text b x g) ∙ collapse-text false b x g)
 
-behind_is : (g : Bool) (b : ℕ) (bs : List ℕ) (x : List ℕ) → is_gap b ≡ g
-    → after false bs ≡ collapse_after false x → after true bs ≡ behind_gap x
-    → after true (b ∷ bs) ≡ behind_gap (keep_before b x)
-behind_is true b bs [] g p q = after-gap true b bs g ∙ q ∙ sym (ap (λ t. behind_gap t) (keep-gap b g))
-behind_is true b bs (c ∷ cs) g p q = after-gap true b bs g ∙ q ∙ sym (ap (λ t. 32 ∷ t) (collapse-gap true b (c ∷ cs) g))
-behind_is false b bs x g p q = after-text true b bs g ∙ ap (λ t. 32 ∷ b ∷ t) p ∙ sym (ap (λ t. behind_gap t) (keep-text b x g) ∙ ap (λ t. 32 ∷ t) (collapse-text true b x g))
+beyond_is : (g : Bool) (b : ℕ) (bs : List ℕ) (x : List ℕ) → is_gap b ≡ g
+    → after false bs ≡ collapse_after false x → after true bs ≡ beyond_gap x
+    → after true (b ∷ bs) ≡ beyond_gap (keep_byte is_gap b x)
+beyond_is true b bs [] g p q = after-gap true b bs g ∙ q ∙ sym (ap (λ t. beyond_gap t) (keep-gap b g))
+beyond_is true b bs (c ∷ cs) g p q = after-gap true b bs g ∙ q ∙ sym (ap (λ t. 32 ∷ t) (collapse-gap true b (c ∷ cs) g))
+beyond_is false b bs x g p q = after-text true b bs g ∙ ap (λ t. 32 ∷ b ∷ t) p ∙ sym (ap (λ t. beyond_gap t) (keep-text b x g) ∙ ap (λ t. 32 ∷ t) (collapse-text true b x g))
 
-both : (bs : List ℕ) → (after false bs ≡ collapse_after false (strip_trailing bs)) × (after true bs ≡ behind_gap (strip_trailing bs))
+both : (bs : List ℕ) → (after false bs ≡ collapse_after false (trim_end_by is_gap bs)) × (after true bs ≡ beyond_gap (trim_end_by is_gap bs))
+unfolding trim_end_by
 both [] = (refl, refl)
 both (b ∷ bs) =
     let h = both bs in
-    (plain_is (is_gap b) b bs (strip_trailing bs) refl h.0 h.1, behind_is (is_gap b) b bs (strip_trailing bs) refl h.0 h.1)
+    (plain_is (is_gap b) b bs (trim_end_by is_gap bs) refl h.0 h.1, beyond_is (is_gap b) b bs (trim_end_by is_gap bs) refl h.0 h.1)
 
-pub after_is : (text : List ℕ) → after false (strip_leading text) ≡ settle_gaps text
+pub after_is : (text : List ℕ) → after false (skip is_gap text) ≡ settle_gaps text
 unfolding settle_gaps
-after_is text = (both (strip_leading text)).0
+after_is text = (both (skip is_gap text)).0
 
 -- what the rest of a text gives after what was made of its front
 abbrev pub rest_after : (made : List ℕ) (after_gap : Bool) → List ℕ → List ℕ
-rest_after [] after_gap rest = after false (strip_leading rest)
+rest_after [] after_gap rest = after false (skip is_gap rest)
 rest_after (b ∷ bs) after_gap rest = after after_gap rest
 
-strip-gap : (b : ℕ) (bs : List ℕ) → is_gap b ≡ true → strip_leading (b ∷ bs) ≡ strip_leading bs
-strip-gap b bs h = ap (λ t. elim t as (λ _. List ℕ) [ true ↦ strip_leading bs | false ↦ b ∷ bs ]) h
+strip-gap : (b : ℕ) (bs : List ℕ) → is_gap b ≡ true → skip is_gap (b ∷ bs) ≡ skip is_gap bs
+unfolding skip
+strip-gap b bs h = ap (λ t. elim t as (λ _. List ℕ) [ true ↦ skip is_gap bs | false ↦ b ∷ bs ]) h
 
-strip-text : (b : ℕ) (bs : List ℕ) → is_gap b ≡ false → strip_leading (b ∷ bs) ≡ b ∷ bs
-strip-text b bs h = ap (λ t. elim t as (λ _. List ℕ) [ true ↦ strip_leading bs | false ↦ b ∷ bs ]) h
+strip-text : (b : ℕ) (bs : List ℕ) → is_gap b ≡ false → skip is_gap (b ∷ bs) ≡ b ∷ bs
+unfolding skip
+strip-text b bs h = ap (λ t. elim t as (λ _. List ℕ) [ true ↦ skip is_gap bs | false ↦ b ∷ bs ]) h
 
 gap_in : (made : List ℕ) (g : Bool) (b : ℕ) (bs : List ℕ) → is_gap b ≡ true → rest_after made g (b ∷ bs) ≡ rest_after made true bs
 gap_in [] g b bs h = ap (λ t. after false t) (strip-gap b bs h)
@@ -132,25 +136,25 @@ none_read made rest text e f = rw (e, f) (after_is text)
 
 -- ---- a text that is settled unchanged
 
-module _ (b : ℕ) (bs : List ℕ) (plain : is_settled false bs ≡ true → after false bs ≡ bs) (behind : is_settled true bs ≡ true → after true bs ≡ 32 ∷ bs) where
+module _ (b : ℕ) (bs : List ℕ) (plain : is_settled false bs ≡ true → after false bs ≡ bs) (beyond : is_settled true bs ≡ true → after true bs ≡ 32 ∷ bs) where
   settled_plain : (g : Bool) → is_gap b ≡ g → settled_by g false (b == 32) (is_settled true bs) (is_settled false bs) ≡ true → after false (b ∷ bs) ≡ b ∷ bs
   settled_plain true g h =
       let parts = and_parts (b == 32) (is_settled true bs) h in
-      after-gap false b bs g ∙ behind parts.1 ∙ ap (λ x. x ∷ bs) (sym (eqb-true b 32 parts.0))
+      after-gap false b bs g ∙ beyond parts.1 ∙ ap (λ x. x ∷ bs) (sym (eqb-true b 32 parts.0))
   settled_plain false g h = after-text false b bs g ∙ ap (λ t. b ∷ t) (plain h)
 
-  settled_behind : (g : Bool) → is_gap b ≡ g → settled_by g true (b == 32) (is_settled true bs) (is_settled false bs) ≡ true → after true (b ∷ bs) ≡ 32 ∷ b ∷ bs
-  settled_behind true g h = cc
-  settled_behind false g h = after-text true b bs g ∙ ap (λ t. 32 ∷ b ∷ t) (plain h)
+  settled_beyond : (g : Bool) → is_gap b ≡ g → settled_by g true (b == 32) (is_settled true bs) (is_settled false bs) ≡ true → after true (b ∷ bs) ≡ 32 ∷ b ∷ bs
+  settled_beyond true g h = cc
+  settled_beyond false g h = after-text true b bs g ∙ ap (λ t. 32 ∷ b ∷ t) (plain h)
 
 settled_both : (bs : List ℕ) → (is_settled false bs ≡ true → after false bs ≡ bs) × (is_settled true bs ≡ true → after true bs ≡ 32 ∷ bs)
 settled_both [] = (λ h. refl, λ h. cc)
 settled_both (b ∷ bs) =
     let h = settled_both bs in
-    (settled_plain b bs h.0 h.1 (is_gap b) refl, settled_behind b bs h.0 h.1 (is_gap b) refl)
+    (settled_plain b bs h.0 h.1 (is_gap b) refl, settled_beyond b bs h.0 h.1 (is_gap b) refl)
 
 settled_front : (g : Bool) (b : ℕ) (bs : List ℕ) → is_gap b ≡ g → settled_by g true (b == 32) (is_settled true bs) (is_settled false bs) ≡ true
-    → after false (strip_leading (b ∷ bs)) ≡ b ∷ bs
+    → after false (skip is_gap (b ∷ bs)) ≡ b ∷ bs
 settled_front true b bs g h = cc
 settled_front false b bs g h = ap (λ t. after false t) (strip-text b bs g) ∙ after-text false b bs g ∙ ap (λ t. b ∷ t) ((settled_both bs).0 h)
 

@@ -104,7 +104,7 @@ apart-low name middle j false e m less same = grind (arith, nat_tests, e)
 pub after_middle : (name : List ℕ) (middle j : ℕ) → middle < 177 → slice_cmp nat_cmp (name_at middle) name ≡ Less → name_at j ≡ name → middle < j
 after_middle name middle j = apart-low name middle j (nat_le j middle) refl
 
-apart-high : (name : List ℕ) (middle j : ℕ) (behind : Bool) → nat_le middle j ≡ behind → j < 177
+apart-high : (name : List ℕ) (middle j : ℕ) (after : Bool) → nat_le middle j ≡ after → j < 177
     → slice_cmp nat_cmp (name_at middle) name ≡ Greater → name_at j ≡ name → j < middle
 apart-high name middle j true e within greater same =
     let one = itself name j same in

@@ -9,29 +9,30 @@ use Rattle.std.proofs.lemmas.Str.{encodes-chars}
 use Rattle.caseless.specs.Caseless.{default_case_fold}
 use Rattle.ucd_case.specs.CaseFolding.{full_fold, full_folding, or_itself}
 use Rattle.cm_text.specs.Labels.{is_gap, case_fold, settle_gaps, fold_label}
-use Rattle.cm_text.specs.steps.LabelSteps.{is_plain_byte, is_plain, is_kept, is_all_ascii, is_own_fold, is_bracketing, is_bare, is_settled, settled_by}
+use Rattle.cm_text.specs.steps.LabelSteps.{is_settled, settled_by}
+use Rattle.cm_text.specs.PlainLabels.{is_plain_byte, is_plain, is_kept, is_all_ascii, is_own_fold, is_bracketing, is_bare}
 use Rattle.cm_text.proofs.lemmas.FoldLemmas.{ascii_folds}
 use Rattle.cm_text.proofs.lemmas.LabelLemmas.{settled}
 
 -- a byte of an ASCII label is its own small letter
 
-small : (behind : Bool) (b : ℕ) (bs : List ℕ) → is_plain behind (b ∷ bs) ≡ true → b < 128 → to_ascii_lowercase b ≡ b
-small behind b bs h ascii = by_kind (is_plain_byte b || nat_le 128 b) refl h
+small : (after : Bool) (b : ℕ) (bs : List ℕ) → is_plain after (b ∷ bs) ≡ true → b < 128 → to_ascii_lowercase b ≡ b
+small after b bs h ascii = by_kind (is_plain_byte b || nat_le 128 b) refl h
   where
-    by_kind : (plain : Bool) → (is_plain_byte b || nat_le 128 b) ≡ plain → elim plain [ true ↦ is_plain false bs | false ↦ b == 32 && not behind && is_plain true bs ] ≡ true → to_ascii_lowercase b ≡ b
+    by_kind : (plain : Bool) → (is_plain_byte b || nat_le 128 b) ≡ plain → elim plain [ true ↦ is_plain false bs | false ↦ b == 32 && not after && is_plain true bs ] ≡ true → to_ascii_lowercase b ≡ b
     by_kind true e k = grind (arith, nat_tests, e, ascii)
-    by_kind false e k = let space = (and_parts (b == 32) (not behind) (and_parts (b == 32 && not behind) (is_plain true bs) k).0).0 in grind (arith, nat_tests, space)
+    by_kind false e k = let space = (and_parts (b == 32) (not after) (and_parts (b == 32 && not after) (is_plain true bs) k).0).0 in grind (arith, nat_tests, space)
 
 no_gap : (b : ℕ) → (is_plain_byte b || nat_le 128 b) ≡ true → is_gap b ≡ false
 no_gap b h = grind (arith, nat_tests)
 
 -- what follows such a byte is plain
-rest_plain : (behind : Bool) (b : ℕ) (bs : List ℕ) → is_plain behind (b ∷ bs) ≡ true → is_plain (not (is_plain_byte b || nat_le 128 b)) bs ≡ true
-rest_plain behind b bs h = by_kind (is_plain_byte b || nat_le 128 b) h
+rest_plain : (after : Bool) (b : ℕ) (bs : List ℕ) → is_plain after (b ∷ bs) ≡ true → is_plain (not (is_plain_byte b || nat_le 128 b)) bs ≡ true
+rest_plain after b bs h = by_kind (is_plain_byte b || nat_le 128 b) h
   where
-    by_kind : (plain : Bool) → elim plain [ true ↦ is_plain false bs | false ↦ b == 32 && not behind && is_plain true bs ] ≡ true → is_plain (not plain) bs ≡ true
+    by_kind : (plain : Bool) → elim plain [ true ↦ is_plain false bs | false ↦ b == 32 && not after && is_plain true bs ] ≡ true → is_plain (not plain) bs ≡ true
     by_kind true k = k
-    by_kind false k = (and_parts (b == 32 && not behind) (is_plain true bs) k).1
+    by_kind false k = (and_parts (b == 32 && not after) (is_plain true bs) k).1
 
 ascii_byte : (b : ℕ) → nat_lt b 128 ≡ true → b < 128
 ascii_byte b h = grind (arith, nat_tests)
@@ -42,23 +43,23 @@ all_ascii [] h (suc i) = omega arith
 all_ascii (b ∷ bs) h zero = ascii_byte b (and_parts (nat_lt b 128) (is_all_ascii bs) h).0
 all_ascii (b ∷ bs) h (suc i) = all_ascii bs (and_parts (nat_lt b 128) (is_all_ascii bs) h).1 i
 
-plain_lower : (behind : Bool) (text : List ℕ) → is_plain behind text ≡ true → is_all_ascii text ≡ true → map to_ascii_lowercase text ≡ text
-plain_lower behind [] h a = refl
-plain_lower behind (b ∷ bs) h a =
+plain_lower : (after : Bool) (text : List ℕ) → is_plain after text ≡ true → is_all_ascii text ≡ true → map to_ascii_lowercase text ≡ text
+plain_lower after [] h a = refl
+plain_lower after (b ∷ bs) h a =
     let parts = and_parts (nat_lt b 128) (is_all_ascii bs) a in
-    λ i. small behind b bs h (ascii_byte b parts.0) i ∷ plain_lower (not (is_plain_byte b || nat_le 128 b)) bs (rest_plain behind b bs h) parts.1 i
+    λ i. small after b bs h (ascii_byte b parts.0) i ∷ plain_lower (not (is_plain_byte b || nat_le 128 b)) bs (rest_plain after b bs h) parts.1 i
 
-plain_settled : (behind : Bool) (text : List ℕ) → is_plain behind text ≡ true → is_settled behind text ≡ true
-plain_settled behind [] h = h
-plain_settled behind (b ∷ bs) h = by_kind (is_plain_byte b || nat_le 128 b) refl h (λ other. plain_settled other bs)
+plain_settled : (after : Bool) (text : List ℕ) → is_plain after text ≡ true → is_settled after text ≡ true
+plain_settled after [] h = h
+plain_settled after (b ∷ bs) h = by_kind (is_plain_byte b || nat_le 128 b) refl h (λ other. plain_settled other bs)
   where
-    by_kind : (plain : Bool) → (is_plain_byte b || nat_le 128 b) ≡ plain → elim plain [ true ↦ is_plain false bs | false ↦ b == 32 && not behind && is_plain true bs ] ≡ true
-        → ((other : Bool) → is_plain other bs ≡ true → is_settled other bs ≡ true) → is_settled behind (b ∷ bs) ≡ true
-    by_kind true e k rest = ap (λ g. settled_by g behind (b == 32) (is_settled true bs) (is_settled false bs)) (no_gap b e) ∙ rest false k
+    by_kind : (plain : Bool) → (is_plain_byte b || nat_le 128 b) ≡ plain → elim plain [ true ↦ is_plain false bs | false ↦ b == 32 && not after && is_plain true bs ] ≡ true
+        → ((other : Bool) → is_plain other bs ≡ true → is_settled other bs ≡ true) → is_settled after (b ∷ bs) ≡ true
+    by_kind true e k rest = ap (λ g. settled_by g after (b == 32) (is_settled true bs) (is_settled false bs)) (no_gap b e) ∙ rest false k
     by_kind false e k rest =
-        let parts = and_parts (b == 32 && not behind) (is_plain true bs) k in
-        let space = and_parts (b == 32) (not behind) parts.0 in
-        spaced behind space.0 space.1 (rest true parts.1)
+        let parts = and_parts (b == 32 && not after) (is_plain true bs) k in
+        let space = and_parts (b == 32) (not after) parts.0 in
+        spaced after space.0 space.1 (rest true parts.1)
       where
         spaced : (before : Bool) → (b == 32) ≡ true → not before ≡ true → is_settled true bs ≡ true → is_settled before (b ∷ bs) ≡ true
         spaced false s n r = grind (arith, nat_tests, s, r)
@@ -96,14 +97,14 @@ no_bracket b h = grind (arith, nat_tests)
 space_no_bracket : (b : ℕ) → (b == 32) ≡ true → not (is_bracketing b) ≡ true
 space_no_bracket b h = grind (arith, nat_tests)
 
-no_brackets : (behind : Bool) (text : List ℕ) → is_plain behind text ≡ true → list_all (λ c. not (is_bracketing c)) text ≡ true
-no_brackets behind [] h = refl
-no_brackets behind (b ∷ bs) h =
-    ap₂ ◌&&◌ (by_kind (is_plain_byte b || nat_le 128 b) refl h) (no_brackets (not (is_plain_byte b || nat_le 128 b)) bs (rest_plain behind b bs h))
+no_brackets : (after : Bool) (text : List ℕ) → is_plain after text ≡ true → list_all (λ c. not (is_bracketing c)) text ≡ true
+no_brackets after [] h = refl
+no_brackets after (b ∷ bs) h =
+    ap₂ ◌&&◌ (by_kind (is_plain_byte b || nat_le 128 b) refl h) (no_brackets (not (is_plain_byte b || nat_le 128 b)) bs (rest_plain after b bs h))
   where
-    by_kind : (plain : Bool) → (is_plain_byte b || nat_le 128 b) ≡ plain → elim plain [ true ↦ is_plain false bs | false ↦ b == 32 && not behind && is_plain true bs ] ≡ true → not (is_bracketing b) ≡ true
+    by_kind : (plain : Bool) → (is_plain_byte b || nat_le 128 b) ≡ plain → elim plain [ true ↦ is_plain false bs | false ↦ b == 32 && not after && is_plain true bs ] ≡ true → not (is_bracketing b) ≡ true
     by_kind true e k = no_bracket b e
-    by_kind false e k = space_no_bracket b (and_parts (b == 32) (not behind) (and_parts (b == 32 && not behind) (is_plain true bs) k).0).0
+    by_kind false e k = space_no_bracket b (and_parts (b == 32) (not after) (and_parts (b == 32 && not after) (is_plain true bs) k).0).0
 
 pub plain_bare : (text : List ℕ) → is_plain true text ≡ true → is_bare text ≡ true
 plain_bare [] h = h
@@ -114,8 +115,8 @@ plain_bare (b ∷ bs) h = ap₂ ◌&&◌ (by_kind (is_plain_byte b || nat_le 128
     by_kind false e k = absurd (grind (arith, nat_tests, k))
 
 -- it is read to its end, which no space is before
-pub read_out : (label rest : List ℕ) (behind : Bool) → is_plain true label ≡ is_plain behind rest → rest ≡ [] → behind ≡ false → is_plain true label ≡ true
-read_out label rest behind h none e = h ∙ ap (is_plain behind) none ∙ ap not e
+pub read_out : (label rest : List ℕ) (after : Bool) → is_plain true label ≡ is_plain after rest → rest ≡ [] → after ≡ false → is_plain true label ≡ true
+read_out label rest after h none e = h ∙ ap (is_plain after) none ∙ ap not e
 
 pub with_true : (test : Bool) → (test || true) ≡ true
 with_true true = refl

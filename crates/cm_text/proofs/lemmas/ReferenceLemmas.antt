@@ -10,8 +10,8 @@ use Rattle.std.proofs.lemmas.Int.Digits.{digits_value-lt, digits_value_more}
 use Rattle.std.proofs.lemmas.Str.Parse.{digits_value-take-le}
 use Rattle.std.proofs.lemmas.List.{length-take, length-drop, take_all, get_or-drop}
 use Rattle.std.specs.Str.{IsCharBoundary, IsUtf8}
+use Rattle.std.specs.Int.{is_in_range}
 use Rattle.std.proofs.lemmas.Str.{IsCharBoundary-after_ascii}
-use Rattle.cm_text.specs.Characters.{within}
 use Rattle.cm_text.specs.NamedReferences.{names}
 use Rattle.cm_text.specs.References.{after_word, begins_with, before_semicolon, between, numbered_character, numbered, named, entry, decimal_reference, hexadecimal_reference, entity_reference, first_of_all, reference}
 
@@ -216,7 +216,7 @@ ends-if n text characters content false h = tt
 ends-numbered : (radix most n : ℕ) (text : List ℕ) (o : Option (List ℕ)) → Inside n text o → EndsWithin text (numbered radix most (suc n) o)
 ends-numbered radix most n text None h = tt
 ends-numbered radix most n text (Some digits) h =
-    ends-if n text (numbered_character (digits_value radix digits) ∷ []) digits (within 1 most (length digits)) h
+    ends-if n text (numbered_character (digits_value radix digits) ∷ []) digits (is_in_range 1 most (length digits)) h
 
 ends-entry : (text name : List ℕ) (found : Option (List ℕ)) → Inside 1 text (Some name)
     → EndsWithin text (elim found as (λ _. Read) [ None ↦ None | Some characters ↦ Some (characters, 2 + length name) ])

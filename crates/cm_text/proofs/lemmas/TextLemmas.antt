@@ -27,10 +27,10 @@ pub nul-first : (bs : List ℕ) (i : ℕ) → i < length bs → Passes (is_byte 
 nul-first bs i within nul none = rw add-one (nul-at bs i within nul none)
 
 -- what was made so far continues by it
-pub more_text : (made front behind rest whole : List ℕ) → front ++ (replacement_bytes ++ text_of behind) ≡ text_of rest → made ++ text_of rest ≡ text_of whole
-    → ((made ++ front) ++ replacement_bytes) ++ text_of behind ≡ text_of whole
-more_text made front behind rest whole cut so_far =
-    append_assoc (made ++ front) replacement_bytes (text_of behind) ∙ append_assoc made front (replacement_bytes ++ text_of behind) ∙ ap (λ t. made ++ t) cut ∙ so_far
+pub more_text : (made front after rest whole : List ℕ) → front ++ (replacement_bytes ++ text_of after) ≡ text_of rest → made ++ text_of rest ≡ text_of whole
+    → ((made ++ front) ++ replacement_bytes) ++ text_of after ≡ text_of whole
+more_text made front after rest whole cut so_far =
+    append_assoc (made ++ front) replacement_bytes (text_of after) ∙ append_assoc made front (replacement_bytes ++ text_of after) ∙ ap (λ t. made ++ t) cut ∙ so_far
 
 -- one without any
 pub nul-nowhere : (bs : List ℕ) → Nowhere (Passes (is_byte 0) bs) 0 (length bs) → bs ≡ text_of bs

@@ -9,11 +9,11 @@ use Rattle.std.proofs.lemmas.List.Folds.{list_all-append}
 use Rattle.cm_text.specs.LineText.{is_line}
 use Rattle.cm_text.specs.Lines.{LineView, lines_of, plain_line, plain_lines_of, with_line_feed}
 use Rattle.cm_text.specs.Cut.{Cut, cut_more, begun, without}
-use Rattle.cm_text.specs.TextLines.{begins_text, is_text_behind, are_text, AreTextLines}
+use Rattle.cm_text.specs.TextLines.{begins_text, is_text_after, are_text, AreTextLines}
 use Rattle.cm_text.specs.declared.text_lines.TextAhead.{TextAhead}
 use Rattle.cm_text.specs.steps.FirstLine.{IsFirstLine}
 use Rattle.cm_text.specs.steps.TextAhead.{IsAhead}
-use Rattle.cm_text.proofs.lemmas.CutLemmas.{behind, line_ends, at_byte}
+use Rattle.cm_text.proofs.lemmas.CutLemmas.{beyond, line_ends, at_byte}
 use Rattle.cm_text.proofs.lemmas.LinesLemmas.{lines_are_computed, lines_are_lines, lines_with_line_feeds}
 
 -- the lines of a text are lines
@@ -22,14 +22,14 @@ all_lines text = lines_are_lines text (lines_of text) (lines_are_computed text)
 
 -- the cut of lines, each with its line feed, and of more after them
 pub lines_cut : (lines : List (List ℕ)) (more : List ℕ) → list_all is_line lines ≡ true
-    → cut_more (begun false) (flat_map with_line_feed lines ++ more) ≡ behind (map plain_line lines) (cut_more (begun false) more)
+    → cut_more (begun false) (flat_map with_line_feed lines ++ more) ≡ beyond (map plain_line lines) (cut_more (begun false) more)
 lines_cut [] more h = refl
 lines_cut (line ∷ lines) more h =
     let parts = and_parts (is_line line) (list_all is_line lines) h in
     let rest = flat_map with_line_feed lines in
     ap (cut_more (begun false)) (append_assoc (with_line_feed line) rest more ∙ append_assoc line (10 ∷ []) (rest ++ more))
     ∙ line_ends line 10 (rest ++ more) parts.0 refl
-    ∙ ap (behind (plain_line line ∷ [])) (lines_cut lines more parts.1)
+    ∙ ap (beyond (plain_line line ∷ [])) (lines_cut lines more parts.1)
 
 -- one line more
 
@@ -41,22 +41,22 @@ next_spaces (suc n) spaces = 0
 pub no_spaces : (n spaces : ℕ) → next_spaces (n + 1) spaces ≡ 0
 no_spaces n spaces = ap (λ m. next_spaces m spaces) (add-one n)
 
-pub text_behind : (spaces : ℕ) (line : List ℕ) → ((k : ℕ) → k < spaces → get_or line k 0 ≡ 32) → spaces < length line → begins_text (get_or line spaces 0) ≡ true
-    → is_text_behind spaces line ≡ true
-text_behind spaces [] front within begins = absurd (omega (arith, within))
-text_behind zero (b ∷ bs) front within begins = begins
-text_behind (suc n) (b ∷ bs) front within begins =
+pub text_after : (spaces : ℕ) (line : List ℕ) → ((k : ℕ) → k < spaces → get_or line k 0 ≡ 32) → spaces < length line → begins_text (get_or line spaces 0) ≡ true
+    → is_text_after spaces line ≡ true
+text_after spaces [] front within begins = absurd (omega (arith, within))
+text_after zero (b ∷ bs) front within begins = begins
+text_after (suc n) (b ∷ bs) front within begins =
     let first : b ≡ 32 = front 0 (omega arith) in
-    ap (λ c. (c == 32) && is_text_behind n bs) first ∙ text_behind n bs (λ k below. front (suc k) (omega (arith, below))) (omega (arith, within)) begins
+    ap (λ c. (c == 32) && is_text_after n bs) first ∙ text_after n bs (λ k below. front (suc k) (omega (arith, below))) (omega (arith, within)) begins
 
-pub text_more : (spaces : ℕ) (lines : List (List ℕ)) (line : List ℕ) → are_text spaces lines ≡ true → is_text_behind (next_spaces (length lines) spaces) line ≡ true
+pub text_more : (spaces : ℕ) (lines : List (List ℕ)) (line : List ℕ) → are_text spaces lines ≡ true → is_text_after (next_spaces (length lines) spaces) line ≡ true
     → are_text spaces (lines ++ line ∷ []) ≡ true
 text_more spaces [] line h k = ap (λ b. b && true) k
 text_more spaces (l ∷ ls) line h k =
-    let parts = and_parts (is_text_behind spaces l) (are_text 0 ls) h in
+    let parts = and_parts (is_text_after spaces l) (are_text 0 ls) h in
     ap (λ b. b && are_text 0 (ls ++ line ∷ [])) parts.0 ∙ text_more 0 ls line parts.1 (plain (length ls) k)
   where
-    plain : (n : ℕ) → is_text_behind 0 line ≡ true → is_text_behind (next_spaces n 0) line ≡ true
+    plain : (n : ℕ) → is_text_after 0 line ≡ true → is_text_after (next_spaces n 0) line ≡ true
     plain zero k = k
     plain (suc n) k = k
 
@@ -108,18 +108,18 @@ module _ (text : List ℕ) (a : TextAhead) (h : IsAhead a text) (within : a.len 
       nothing (l ∷ ls) e = absurd (omega (arith, e))
 
   next-text : (n first : ℕ) → n ≡ length (lines_of (take a.len text)) → first ≡ a.len + next_spaces n a.spaces → first < a.len + a.line
-      → begins_text (get_or text first 0) ≡ true → ((k : ℕ) → k < a.spaces → get_or text k 0 ≡ 32) → is_text_behind (next_spaces n a.spaces) next ≡ true
+      → begins_text (get_or text first 0) ≡ true → ((k : ℕ) → k < a.spaces → get_or text k 0 ≡ 32) → is_text_after (next_spaces n a.spaces) next ≡ true
   next-text zero first is at before begins front =
-      text_behind a.spaces next (λ k below. byte-at k (omega (arith, below, at, before)) ∙ ap (λ n. get_or text n 0) (omega (arith, none-taken is)) ∙ front k below)
+      text_after a.spaces next (λ k below. byte-at k (omega (arith, below, at, before)) ∙ ap (λ n. get_or text n 0) (omega (arith, none-taken is)) ∙ front k below)
       (omega (arith, before, at, next-length)) (ap begins_text (byte-at a.spaces (omega (arith, before, at)) ∙ ap (λ k. get_or text k 0) (sym at)) ∙ begins)
   next-text (suc n) first is at before begins front =
-      text_behind 0 next (λ k below. absurd (omega (arith, below))) (omega (arith, before, at, next-length))
+      text_after 0 next (λ k below. absurd (omega (arith, below))) (omega (arith, before, at, next-length))
       (ap begins_text (byte-at 0 (omega (arith, before, at)) ∙ ap (λ k. get_or text k 0) (sym at)) ∙ begins)
 
   pub text_next : (first len line : ℕ) → first ≡ a.len + next_spaces a.count a.spaces → first < a.len + a.line → begins_text (get_or text first 0) ≡ true
       → ((k : ℕ) → k < a.spaces → get_or text k 0 ≡ 32) → len ≡ a.len + (a.line + 1) → IsUtf8 text → IsFirstLine line (drop len text)
       → IsAhead (record { spaces = a.spaces; count = a.count + 1; len = len; line = line }) text
-  text_next first len line at before begins front is utf8 behind =
+  text_next first len line at before begins front is utf8 beyond =
       let taken : take len text ≡ flat_map with_line_feed (lines_of (take a.len text) ++ next ∷ []) = ap (λ n. take n text) is ∙ more_taken text a.len a.line h.lines h.first inside feed-inside in
       let lines : lines_of (take len text) ≡ lines_of (take a.len text) ++ next ∷ [] = ap (λ n. lines_of (take n text)) is ∙ more_lines text a.len a.line h.lines h.first inside feed-inside in
       record {
@@ -128,8 +128,8 @@ module _ (text : List ℕ) (a : TextAhead) (h : IsAhead a text) (within : a.len 
         lines = taken ∙ ap (flat_map with_line_feed) (sym lines);
         counted = omega (arith, h.counted, ap length lines, length-append (lines_of (take a.len text)) (next ∷ []));
         are_text = ap (are_text a.spaces) lines ∙ text_more a.spaces (lines_of (take a.len text)) next h.are_text
-            (subst (λ n. is_text_behind (next_spaces n a.spaces) next ≡ true) h.counted (next-text a.count first h.counted at before begins front));
-        first = behind;
+            (subst (λ n. is_text_after (next_spaces n a.spaces) next ≡ true) h.counted (next-text a.count first h.counted at before begins front));
+        first = beyond;
       }
 
 -- the lines of text that were found before what is unread
@@ -149,14 +149,14 @@ module _ (after_return : Bool) (text : List ℕ) (at : ℕ) (a : TextAhead) (wai
       go true waits = absurd (omega (arith, some-bytes a.len refl, h.within, waits refl, length-drop at text))
       go false waits = refl
 
-  ahead-cut : cut_more (begun after_return) (drop at text) ≡ behind (map plain_line found) (cut_more (begun false) (drop a.len (drop at text)))
+  ahead-cut : cut_more (begun after_return) (drop at text) ≡ beyond (map plain_line found) (cut_more (begun false) (drop a.len (drop at text)))
   ahead-cut =
       ap (λ r. cut_more (begun r) (drop at text)) not-waiting
       ∙ ap (cut_more (begun false)) (sym (take-append-drop a.len (drop at text)) ∙ ap (λ t. t ++ drop a.len (drop at text)) h.lines)
       ∙ lines_cut found (drop a.len (drop at text)) (all_lines (take a.len (drop at text)))
 
-  left-behind : (later : List LineView) → drop a.count (map plain_line found ++ later) ≡ later
-  left-behind later = drop_at (map plain_line found) later a.count (length-map found plain_line ∙ sym h.counted)
+  left-beyond : (later : List LineView) → drop a.count (map plain_line found ++ later) ≡ later
+  left-beyond later = drop_at (map plain_line found) later a.count (length-map found plain_line ∙ sym h.counted)
 
   -- they are lent,
   pub text_lent : (lines : List ℕ) → lines ≡ take a.len (drop at text)
@@ -164,14 +164,14 @@ module _ (after_return : Bool) (text : List ℕ) (at : ℕ) (a : TextAhead) (wai
   text_lent lines is =
       let more = (cut_more (begun false) (drop a.len (drop at text))).ended in
       let all = ap (λ (c : Cut). c.ended) ahead-cut in
-      all ∙ ap₂ (λ t w. plain_lines_of t ++ w) (sym is) (sym (left-behind more) ∙ ap (drop a.count) (sym all))
+      all ∙ ap₂ (λ t w. plain_lines_of t ++ w) (sym is) (sym (left-beyond more) ∙ ap (drop a.count) (sym all))
 
   -- and passed
   pub text_passed : cut_more (begun after_return) (drop (at + a.len) text) ≡ without a.count (cut_more (begun after_return) (drop at text))
   text_passed =
       let more = cut_more (begun false) (drop a.len (drop at text)) in
       ap₂ (λ r t. cut_more (begun r) t) not-waiting (sym (drop-drop a.len at text))
-      ∙ ap (λ t. record more { ended = t }) (sym (left-behind more.ended)) ∙ ap (without a.count) (sym ahead-cut)
+      ∙ ap (λ t. record more { ended = t }) (sym (left-beyond more.ended)) ∙ ap (without a.count) (sym ahead-cut)
 
 -- passed one by one
 pub passed_more : (n : ℕ) (cut : Cut) → without 1 (without n cut) ≡ without (n + 1) cut
@@ -187,11 +187,11 @@ last-feed (line ∷ next ∷ lines) some =
     (with_line_feed line ++ rest.0, ap (λ t. with_line_feed line ++ t) rest.1 ∙ sym (append_assoc (with_line_feed line) rest.0 (10 ∷ [])))
 
 -- the spaces, and a byte after them
-spaces-first : (spaces : ℕ) (text : List ℕ) → is_text_behind spaces text ≡ true → (spaces < length text) × ((k : ℕ) → k < spaces → get_or text k 0 ≡ 32)
+spaces-first : (spaces : ℕ) (text : List ℕ) → is_text_after spaces text ≡ true → (spaces < length text) × ((k : ℕ) → k < spaces → get_or text k 0 ≡ 32)
 spaces-first spaces [] h = absurd (cc (h))
 spaces-first zero (b ∷ bs) h = (omega arith, λ k below. absurd (omega (arith, below)))
 spaces-first (suc n) (b ∷ bs) h =
-    let parts = and_parts (b == 32) (is_text_behind n bs) h in
+    let parts = and_parts (b == 32) (is_text_after n bs) h in
     let rest = spaces-first n bs parts.1 in
     (omega (arith, rest.0), at (eqb-true b 32 parts.0) rest.1)
   where
@@ -199,25 +199,25 @@ spaces-first (suc n) (b ∷ bs) h =
     at first rest zero below = first
     at first rest (suc k) below = rest k (omega (arith, below))
 
-text-behind-more : (spaces : ℕ) (text more : List ℕ) → is_text_behind spaces text ≡ true → is_text_behind spaces (text ++ more) ≡ true
-text-behind-more spaces [] more h = absurd (cc (h))
-text-behind-more zero (b ∷ bs) more h = h
-text-behind-more (suc n) (b ∷ bs) more h =
-    let parts = and_parts (b == 32) (is_text_behind n bs) h in
-    ap (λ v. v && is_text_behind n (bs ++ more)) parts.0 ∙ text-behind-more n bs more parts.1
+text-beyond-more : (spaces : ℕ) (text more : List ℕ) → is_text_after spaces text ≡ true → is_text_after spaces (text ++ more) ≡ true
+text-beyond-more spaces [] more h = absurd (cc (h))
+text-beyond-more zero (b ∷ bs) more h = h
+text-beyond-more (suc n) (b ∷ bs) more h =
+    let parts = and_parts (b == 32) (is_text_after n bs) h in
+    ap (λ v. v && is_text_after n (bs ++ more)) parts.0 ∙ text-beyond-more n bs more parts.1
 
-first-behind : (spaces : ℕ) (lines : List (List ℕ)) → 0 < length lines → are_text spaces lines ≡ true → is_text_behind spaces (flat_map with_line_feed lines) ≡ true
-first-behind spaces [] some h = absurd (omega (arith, some))
-first-behind spaces (line ∷ lines) some h =
-    let parts = and_parts (is_text_behind spaces line) (are_text 0 lines) h in
-    text-behind-more spaces (with_line_feed line) (flat_map with_line_feed lines) (text-behind-more spaces line (10 ∷ []) parts.0)
+first-beyond : (spaces : ℕ) (lines : List (List ℕ)) → 0 < length lines → are_text spaces lines ≡ true → is_text_after spaces (flat_map with_line_feed lines) ≡ true
+first-beyond spaces [] some h = absurd (omega (arith, some))
+first-beyond spaces (line ∷ lines) some h =
+    let parts = and_parts (is_text_after spaces line) (are_text 0 lines) h in
+    text-beyond-more spaces (with_line_feed line) (flat_map with_line_feed lines) (text-beyond-more spaces line (10 ∷ []) parts.0)
 
 module _ (text : List ℕ) (spaces count : ℕ) (h : AreTextLines text spaces count) where
   some-lines : 0 < length (lines_of text)
   some-lines = omega (arith, h.some, h.counted)
 
-  pub begins_as_text : is_text_behind spaces text ≡ true
-  begins_as_text = subst (λ t. is_text_behind spaces t ≡ true) (sym h.lines) (first-behind spaces (lines_of text) some-lines h.are_text)
+  pub begins_as_text : is_text_after spaces text ≡ true
+  begins_as_text = subst (λ t. is_text_after spaces t ≡ true) (sym h.lines) (first-beyond spaces (lines_of text) some-lines h.are_text)
 
   ends-feed : (front : List ℕ) × (text ≡ front ++ 10 ∷ [])
   ends-feed = let last = last-feed (lines_of text) some-lines in (last.0, h.lines ∙ last.1)

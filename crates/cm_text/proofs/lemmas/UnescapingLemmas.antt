@@ -6,7 +6,7 @@ use Rattle.std.proofs.Math.Seq.{drop-length}
 use Rattle.std.specs.Str.{IsCharBoundary, IsUtf8}
 use Rattle.std.proofs.lemmas.Str.{IsCharBoundary-after_ascii}
 use Rattle.memchr.specs.Find.{IsFirstByte, is_byte2}
-use Rattle.cm_text.specs.Characters.{is_ascii_punct, within}
+use Rattle.cm_text.specs.Characters.{is_ascii_punct}
 use Rattle.cm_text.specs.References.{first_of_all, reference}
 use Rattle.cm_text.specs.Unescaping.{escape, special, unescape_after, unescape}
 use Rattle.cm_text.proofs.lemmas.CutLemmas.{slice_from_start}
@@ -160,10 +160,10 @@ pub round : (whole rest range tail next made pushed final : List ℕ) (at len : 
     → range ≡ take (at - 0) (drop 0 rest) → pushed ≡ made ++ range → tail ≡ drop at rest
     → final ++ unescape (drop len tail) ≡ pushed ++ unescape tail → next ≡ drop (at + len) rest → made ++ unescape rest ≡ whole
     → final ++ unescape next ≡ whole
-round whole rest range tail next made pushed final at len run front put behind read after done =
-    let left : drop len tail ≡ next = ap (λ t. drop len t) behind ∙ drop-drop len at rest ∙ sym after in
+round whole rest range tail next made pushed final at len run front put beyond read after done =
+    let left : drop len tail ≡ next = ap (λ t. drop len t) beyond ∙ drop-drop len at rest ∙ sym after in
     ap (λ t. final ++ unescape t) (sym left) ∙ read
     ∙ ap (λ t. t ++ unescape tail) (put ∙ ap (λ t. made ++ t) (front ∙ slice_from_start rest at))
     ∙ append_assoc made (take at rest) (unescape tail)
-    ∙ ap (λ t. made ++ (take at rest ++ unescape t)) behind
+    ∙ ap (λ t. made ++ (take at rest ++ unescape t)) beyond
     ∙ ap (λ t. made ++ t) (sym run) ∙ done

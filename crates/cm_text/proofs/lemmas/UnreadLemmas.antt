@@ -12,7 +12,7 @@ use Rattle.cm_text.specs.Search.{next_place}
 use Rattle.cm_text.specs.steps.FirstLine.{IsFirstLine}
 use Rattle.cm_text.specs.Cut.{Cut, cut_more, begun, without}
 use Rattle.cm_text.specs.Lines.{LineView, plain_line}
-use Rattle.cm_text.proofs.lemmas.CutLemmas.{is_line-append, line_up_to, behind, first_ends}
+use Rattle.cm_text.proofs.lemmas.CutLemmas.{is_line-append, line_up_to, beyond, first_ends}
 
 -- the search for the end of a line of which a front is known
 pub first_line_is : (text : List ℕ) (known n : ℕ) → known ≤ length text → is_line (take known text) ≡ true → n ≡ next_place is_line_ending text known → IsFirstLine n text
@@ -38,7 +38,7 @@ not_waiting false text at n waits within = refl
 
 first_cut : (after_return : Bool) (text : List ℕ) (at n : ℕ) → (after_return ≡ true → at ≡ length text) → IsFirstLine n (drop at text) → n < length (drop at text)
     → cut_more (begun after_return) (drop at text)
-    ≡ behind (plain_line (take n (drop at text)) ∷ []) (cut_more (begun (get_or (drop at text) n 0 == 13)) (drop (n + 1) (drop at text)))
+    ≡ beyond (plain_line (take n (drop at text)) ∷ []) (cut_more (begun (get_or (drop at text) n 0 == 13)) (drop (n + 1) (drop at text)))
 first_cut after_return text at n waits first within =
     ap (λ r. cut_more (begun r) (drop at text)) (not_waiting after_return text at n waits within) ∙ first_ends n (drop at text) first within
 
@@ -56,8 +56,8 @@ lent after_return text line at n waits first within is =
 pub passed_by : (after_return : Bool) (text : List ℕ) (at n : ℕ) → (after_return ≡ true → at ≡ length text) → IsFirstLine n (drop at text) → n < length (drop at text)
     → cut_more (begun (get_or (drop at text) n 0 == 13)) (drop (at + n + 1) text) ≡ without 1 (cut_more (begun after_return) (drop at text))
 passed_by after_return text at n waits first within =
-    let behind_it : drop (n + 1) (drop at text) ≡ drop (at + n + 1) text = drop-drop (n + 1) at text ∙ ap (λ k. drop k text) (omega arith) in
-    ap (cut_more (begun (get_or (drop at text) n 0 == 13))) (sym behind_it) ∙ ap (without 1) (sym (first_cut after_return text at n waits first within))
+    let after_it : drop (n + 1) (drop at text) ≡ drop (at + n + 1) text = drop-drop (n + 1) at text ∙ ap (λ k. drop k text) (omega arith) in
+    ap (cut_more (begun (get_or (drop at text) n 0 == 13))) (sym after_it) ∙ ap (without 1) (sym (first_cut after_return text at n waits first within))
 
 -- none to be passed
 pub none_passed : (cut : Cut) → cut.ended ≡ [] → cut ≡ without 1 cut

@@ -88,11 +88,11 @@ rest_fits n column next spaces k text rest left e =
     rw e (omega (arith, all, long, few))
 
 -- so does what is left after some bytes
-pub behind_fits : (n : ℕ) (text rest : List ℕ) → n ≤ length text → rest ≡ drop n text → n + length rest + 3 * tabs rest ≤ length text + 3 * tabs text
-behind_fits zero text rest within e = rw e (omega arith)
-behind_fits (suc n) [] rest within e = absurd (omega (arith, within))
-behind_fits (suc n) (b ∷ bs) rest within e =
-    let h = behind_fits n bs rest (omega (arith, within)) e in
+pub after_fits : (n : ℕ) (text rest : List ℕ) → n ≤ length text → rest ≡ drop n text → n + length rest + 3 * tabs rest ≤ length text + 3 * tabs text
+after_fits zero text rest within e = rw e (omega arith)
+after_fits (suc n) [] rest within e = absurd (omega (arith, within))
+after_fits (suc n) (b ∷ bs) rest within e =
+    let h = after_fits n bs rest (omega (arith, within)) e in
     omega (arith, h, tabs-cons b bs)
 
 -- a line seen so, without some columns

@@ -60,8 +60,8 @@ Closes (Err (NotUtf8 at)) old new = (new ≡ old) × (0 < length old.pending) ×
 Closes (Err (TooLong at)) old new = ⊥
 
 -- a feed with lines before those that it has, and with a fault
-abbrev pub behind_ready : List LineView → Option TextFault → Feed → Feed
-behind_ready ready fault feed = record {
+abbrev pub after_ready : List LineView → Option TextFault → Feed → Feed
+after_ready ready fault feed = record {
   limit = feed.limit;
   start = feed.start;
   pending = feed.pending;

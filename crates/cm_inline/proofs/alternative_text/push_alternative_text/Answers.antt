@@ -23,7 +23,7 @@ returns-then-is_end-clause-html c = λ targets image.
     let at = c.loop-at.at in
     let low : at < length reader.marks.items = omega (arith, c.loop-at-test.true, ap length c.as_slice-marks.ensures.value) in
     alternative-end c.args.source.now targets reader c.args.html.now c.loop-at.html _ c.args.start c.args.link c.loop-at.from at _ low (mark-among reader c.as_slice-marks.result.now at _ c.as_slice-marks.ensures.value low)
-    (c.loop-at.invariant targets image) (c.in_ok-push_one_line.ensures ∙ ap (λ t. c.loop-at.html ++ escape (one_line t)) c.part.ensures)
+    (c.loop-at.invariant targets image) (c.in_ok-push_one_line.ensures.pushed ∙ ap (λ t. c.loop-at.html ++ escape (one_line t)) c.part.ensures.part)
     (sym c.if-is_end.ensures)
 
 pub loop-at-preserved : goal.loop-at-preserved
@@ -32,8 +32,8 @@ loop-at-preserved c = λ targets image.
     let at = c.loop-at.at in
     let low : at < length reader.marks.items = omega (arith, c.loop-at-test.true, ap length c.as_slice-marks.ensures.value) in
     let is = mark-among reader c.as_slice-marks.result.now at _ c.as_slice-marks.ensures.value low in
-    alternative-next c.args.source.now targets reader c.args.html.now c.loop-at.html _ _ c.args.start c.args.link c.loop-at.from at _ low is (c.loop-at.invariant targets image) (c.in_ok-push_one_line.ensures ∙ ap (λ t. c.loop-at.html ++ escape (one_line t)) c.part.ensures)
-    (c.in_ok-push_mark.ensures c.args.link targets (sym c.if-is_end.ensures) (subst (IsMarkIn c.args.source.now targets reader) (sym is) (settled-mark _ c.args.source.now targets reader at low image.settled)))
+    alternative-next c.args.source.now targets reader c.args.html.now c.loop-at.html _ _ c.args.start c.args.link c.loop-at.from at _ low is (c.loop-at.invariant targets image) (c.in_ok-push_one_line.ensures.pushed ∙ ap (λ t. c.loop-at.html ++ escape (one_line t)) c.part.ensures.part)
+    (c.in_ok-push_mark.ensures.pushed c.args.link targets (sym c.if-is_end.ensures) (subst (IsMarkIn c.args.source.now targets reader) (sym is) (settled-mark _ c.args.source.now targets reader at low image.settled)))
 
 pub returns-clause-html : goal.returns-clause-html
 returns-clause-html c = λ targets image.

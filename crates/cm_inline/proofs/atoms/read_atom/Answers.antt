@@ -6,19 +6,19 @@ use Rattle.cm_inline.proofs.atoms.read_atom.Goals.{in-96+in_ok-read-in-96, in-60
 use Rattle.cm_inline.proofs.atoms.read_atom.Goals as goal
 
 pub put-requires-clause-begins : goal.put-requires-clause-begins
-put-requires-clause-begins c = elim c.match-as_bytes-at.branch [
+put-requires-clause-begins g c = elim c.match-as_bytes-at.branch [
   | in-96+in_ok-read-in-96 w ↦ told w.read-is (w.in_ok-read-in-96.ensures.atom c.args.rules)
   | in-60 w ↦ told w.read-is w.angle-read.ensures.atom
-  | in-92 w ↦ told w.read-is (w.backslash-read.ensures c.args.rules)
-  | in-38 w ↦ told w.read-is (w.ampersand-read.ensures c.args.rules)
+  | in-92 w ↦ told w.read-is (w.backslash-read.ensures.atom c.args.rules)
+  | in-38 w ↦ told w.read-is (w.ampersand-read.ensures.atom c.args.rules)
   | in-10 w ↦ told w.read-is (feed-is c.args.rules source at c.utf8.source (here 10 w.in-10.is))
-  | in-32 w ↦ told w.read-is (w.line_break-read.ensures c.args.rules)
-  | in-33 w ↦ told w.read-is (w.exclamation_mark-read.ensures c.args.rules)
+  | in-32 w ↦ told w.read-is (w.line_break-read.ensures.atom c.args.rules)
+  | in-33 w ↦ told w.read-is (w.exclamation_mark-read.ensures.atom c.args.rules)
   | in-91 w ↦ told w.read-is (opener-is c.args.rules source at c.utf8.source (here 91 w.in-91.is))
-  | in-42 w ↦ told w.read-is w.run-read.ensures
-  | in-95 w ↦ told w.read-is w.run-read-in-95.ensures
-  | in-126 w ↦ told w.read-is w.run-read-in-126.ensures
-  | in_default w ↦ told w.read-is (w.byte-read.ensures c.args.rules)
+  | in-42 w ↦ told w.read-is w.run-read.ensures.atom
+  | in-95 w ↦ told w.read-is w.run-read-in-95.ensures.atom
+  | in-126 w ↦ told w.read-is w.run-read-in-126.ensures.atom
+  | in_default w ↦ told w.read-is (w.byte-read.ensures.atom c.args.rules)
 ]
   where
     source : List ℕ
@@ -34,4 +34,4 @@ put-requires-clause-begins c = elim c.match-as_bytes-at.branch [
     here b is = record { short = c.requires.short; within = c.requires.within; boundary = c.requires.boundary; byte = ap (λ t. get_or t at 0) (sym c.as_bytes.ensures.value) ∙ is }
 
 pub byte-read-requires-clause-lone : goal.byte-read-requires-clause-lone
-byte-read-requires-clause-lone c = search (rules, lone-byte)
+byte-read-requires-clause-lone g c = search (rules, lone-byte)

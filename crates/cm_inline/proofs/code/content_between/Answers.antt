@@ -9,7 +9,7 @@ returns-then-len-lt2-clause-stripped c = search (rules, part-length, stripped-sh
 pub returns-then-are_spaces-clause-stripped : goal.returns-then-are_spaces-clause-stripped
 returns-then-are_spaces-clause-stripped c =
     rw (sym (ap (λ t. slice_range t c.args.from c.args.to) c.as_bytes.ensures.value))
-    (stripped-spaces (slice_range c.as_bytes.result.now c.args.from c.args.to) (sym c.are_spaces.ensures ∙ c.if-are_spaces.true))
+    (stripped-spaces (slice_range c.as_bytes.result.now c.args.from c.args.to) (sym c.are_spaces.ensures.spaces ∙ c.if-are_spaces.true))
 
 pub returns : goal.returns
 returns c =
@@ -27,7 +27,7 @@ returns c =
       stripped = ap (λ t. one_line (slice_range t (c.args.from + 1) (c.args.to - 1))) (sym c.as_bytes.ensures.value)
           ∙ ap one_line (sym (inner-is text c.args.from c.args.to c.requires.0 high))
           ∙ stripped-cut bytes (omega (arith, size, c.if-len-lt2.false)) (sym c.is_space.ensures ∙ c.if-not-is_space.false)
-          (sym c.is_space-else-not-is_space.ensures ∙ c.if-not-is_space-2.false) (sym c.are_spaces.ensures ∙ c.if-are_spaces.false)
+          (sym c.is_space-else-not-is_space.ensures ∙ c.if-not-is_space-2.false) (sym c.are_spaces.ensures.spaces ∙ c.if-are_spaces.false)
           ∙ ap (λ t. stripped (one_line (slice_range t c.args.from c.args.to))) c.as_bytes.ensures.value;
       between = (
         omega (arith, c.if-len-lt2.false),

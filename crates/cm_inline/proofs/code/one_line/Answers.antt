@@ -11,6 +11,7 @@ loop-at-preserved c =
     (c.cut_at.ensures.after_utf8, grind (arith, common_steps, c.loop-at.invariant.1, cut))
 
 pub returns : goal.returns
-returns c =
-    let whole = line-whole c.as_bytes.result.now c.in_default.ensures in
-    grind (arith, common_steps, c.loop-at.invariant.1, whole)
+returns c = record {
+  line = let whole = line-whole c.as_bytes.result.now c.in_default.ensures in
+      grind (arith, common_steps, c.loop-at.invariant.1, whole);
+}

@@ -21,4 +21,4 @@ returns-in-None-clause-html c =
     let reader = c.args.reader.now in
     let mark = c.index-mark.result.now in
     let is = mark-read reader c.args.at mark c.requires.within c.index-mark.ensures in
-    mark-goes-on c.args.source.now c.args.definitions.now reader c.args.html.now _ c.args.at mark c.requires.settled c.requires.within is c.in_ok-push_one.ensures c.in-None.ensures
+    mark-goes-on c.args.source.now c.args.definitions.now reader c.args.html.now _ c.args.at mark c.requires.settled c.requires.within is c.in_ok-push_one.ensures.pushed c.in-None.ensures

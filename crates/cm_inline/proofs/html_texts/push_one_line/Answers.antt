@@ -7,4 +7,4 @@ pub loop-at-preserved : goal.loop-at-preserved
 loop-at-preserved c = grind (arith, nat_tests, line-feed, line-html)
 
 pub returns : goal.returns
-returns c = search (rules, line-whole)
+returns c = record { pushed = search (rules, line-whole) }

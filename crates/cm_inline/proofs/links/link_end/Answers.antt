@@ -1,6 +1,6 @@
 use Rattle.cm_inline.proofs.lemmas.Words.{◌+◌, drop, IfSome, subst, slice_range}
 use Rattle.cm_inline.specs.steps.Links.{IsPlaced}
-use Rattle.cm_inline.proofs.lemmas.LinkLemmas.{turned, ends-behind, placed, inline-first, no-inline}
+use Rattle.cm_inline.proofs.lemmas.LinkLemmas.{turned, ends-beyond, placed, inline-first, no-inline}
 use Rattle.cm_inline.proofs.links.link_end.Goals as goal
 
 pub inline_end-requires : goal.inline_end-requires
@@ -12,7 +12,7 @@ returns-in-Some c =
     let between = slice_range leaf.source.now c.args.after c.args.at in
     let place = subst (λ found. IfSome found (IsPlaced leaf)) c.in-Some.is c.in_ok-inline.ensures.place in
     let ends = inline-first c.args.rules leaf between (drop (c.args.at + 1) leaf.source.now) c.in_ok-inline.field-0 c.in-Some.inline c.in-Some.is c.in_ok-inline.ensures.ends in
-    record { ends = ends; place = (ends-behind c.args.rules leaf c.args.at between c.in-Some.inline c.requires.stands.within ends place.0, place) }
+    record { ends = ends; place = (ends-beyond c.args.rules leaf c.args.at between c.in-Some.inline c.requires.stands.within ends place.0, place) }
 
 pub returns : goal.returns
 returns c =

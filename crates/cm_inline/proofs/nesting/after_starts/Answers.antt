@@ -1,5 +1,5 @@
 use Rattle.cm_inline.proofs.lemmas.Words.{◌^◌, ap, ◌∙◌, arith, Pair}
-use Rattle.cm_inline.specs.declared.runs.Emphasis.TheVariants.{Emph}
+use Rattle.cm_inline.specs.declared.pairing.Emphasis.TheVariants.{Emph}
 use Rattle.cm_inline.specs.steps.pairing.Parts.{starts}
 use Rattle.cm_inline.specs.steps.Runs.{pairs_in}
 use Rattle.cm_inline.proofs.lemmas.NestingLemmas.{start-rises, start-on, start-level, none-level}

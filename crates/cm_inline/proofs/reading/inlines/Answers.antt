@@ -1,4 +1,4 @@
 use Rattle.cm_inline.proofs.reading.inlines.Goals as goal
 
 pub returns : goal.returns
-returns c = rw c.profile.ensures at c.inlines_by.ensures
+returns c = record { reads = rw c.profile.ensures at c.inlines_by.ensures.reads }

@@ -16,10 +16,10 @@ loop-end-preserved c =
     let source = c.args.source.now in
     let byte : get_or source c.loop-end.end 0 ≡ 10 = ap (λ t. get_or t c.loop-end.end 0) (sym c.as_bytes.ensures.value) ∙ c.if-as_bytes-end-ne10.false in
     record {
-      boundary = c.text_end-end.ensures.boundary;
-      read = text-further source (c.loop-end.end + 1) c.text_end-end.result c.text_end-end.ensures (feed-further source c.loop-end.end (omega (arith, c.loop-end-test.true)) byte c.loop-end.invariant.read);
-      plain = plain-further source (c.loop-end.end + 1) c.text_end-end.result c.text_end-end.ensures (plain-feed source c.loop-end.end (omega (arith, c.loop-end-test.true)) byte c.loop-end.invariant.plain);
+      boundary = c.text_end-end.ensures.text.boundary;
+      read = text-further source (c.loop-end.end + 1) c.text_end-end.result c.text_end-end.ensures.text (feed-further source c.loop-end.end (omega (arith, c.loop-end-test.true)) byte c.loop-end.invariant.read);
+      plain = plain-further source (c.loop-end.end + 1) c.text_end-end.result c.text_end-end.ensures.text (plain-feed source c.loop-end.end (omega (arith, c.loop-end-test.true)) byte c.loop-end.invariant.plain);
     }
 
 pub returns : goal.returns
-returns c = λ _. all-text c.args.source.now c.loop-end.end (omega (arith, c.loop-end-test.false)) c.loop-end.invariant.read c.loop-end.invariant.plain
+returns c = record { text = λ _. all-text c.args.source.now c.loop-end.end (omega (arith, c.loop-end-test.false)) c.loop-end.invariant.read c.loop-end.invariant.plain }

@@ -5,9 +5,8 @@ use Rattle.cm_scan.specs.inlines.Pairing.{Item, Delimiters}
 use Rattle.cm_scan.specs.inlines.OnePass.{passed}
 use Rattle.cm_inline.specs.steps.Depths.{item_depth}
 use Rattle.cm_inline.specs.steps.Entries.{Listed}
-use Rattle.cm_inline.specs.steps.Openers.{spent}
 use Rattle.cm_inline.specs.steps.Pairs.{items_emphases}
-use Rattle.cm_inline.specs.steps.Searching.{kind, IsMarked}
+use Rattle.cm_inline.specs.steps.Searching.{kind, IsMarked, spent}
 use Rattle.cm_inline.specs.steps.pairing.Events.{Event, Rest}
 use Rattle.cm_inline.specs.steps.pairing.Parts.{Pair, PairedRun, Part, Numbered, Known, ends, events_of, AreParts, Rising}
 use Rattle.cm_inline.specs.steps.pairing.Readings.{starts_in}

@@ -1,4 +1,4 @@
--- The stack of openers among events, the last first. Items have the last first.
+-- The entries of the delimiter list among events, the last first. Items have the last first.
 use Rattle.std.specs.Prelude.{◌≡◌, ℕ, ◌-◌, Bool, true, false, List, [], ◌∷◌, ◌++◌, reverse, if◌then◌else◌, nat_le, ⊤}
 use Rattle.cm_scan.specs.inlines.Delimiters.{Run}
 use Rattle.cm_scan.specs.inlines.Pairing.{Item, Delimiters}

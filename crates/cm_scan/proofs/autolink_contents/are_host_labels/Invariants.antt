@@ -1,6 +1,7 @@
 use Rattle.std.proofs.Common.{◌≡◌, ◌≤◌, length}
 use Rattle.std.specs.List.{list_all}
-use Rattle.cm_scan.specs.spans.Autolinks.{labels, is_host_label}
+use Rattle.cm_scan.specs.spans.Autolinks.{is_host_label}
+use Rattle.cm_scan.specs.steps.SpanSteps.{labels}
 use Rattle.cm_scan.proofs.autolink_contents.are_host_labels.Given as goal
 
 abbrev pub invariant-loop-dot : goal.invariant-loop-dot

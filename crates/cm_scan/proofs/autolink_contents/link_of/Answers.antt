@@ -5,14 +5,14 @@ use Rattle.cm_scan.proofs.autolink_contents.link_of.Goals as goal
 
 pub returns-then-is_absolute-clause-read : goal.returns-then-is_absolute-clause-read
 returns-then-is_absolute-clause-read c = λ rest.
-    link-uri c.args.inside.now rest (ap is_absolute (sym c.as_bytes-bytes.ensures.value) ∙ sym c.is_absolute.ensures ∙ c.if-is_absolute.true)
+    link-uri c.args.inside.now rest (ap is_absolute (sym c.as_bytes-bytes.ensures.value) ∙ sym c.is_absolute.ensures.absolute ∙ c.if-is_absolute.true)
 
 pub returns-then-not-is_address-clause-read : goal.returns-then-not-is_address-clause-read
 returns-then-not-is_address-clause-read c = λ rest.
-    link-none c.args.inside.now rest (ap is_absolute (sym c.as_bytes-bytes.ensures.value) ∙ sym c.is_absolute.ensures ∙ c.if-is_absolute.false)
-    (ap is_address (sym c.as_bytes-bytes.ensures.value) ∙ sym c.is_address.ensures ∙ c.if-not-is_address.true)
+    link-none c.args.inside.now rest (ap is_absolute (sym c.as_bytes-bytes.ensures.value) ∙ sym c.is_absolute.ensures.absolute ∙ c.if-is_absolute.false)
+    (ap is_address (sym c.as_bytes-bytes.ensures.value) ∙ sym c.is_address.ensures.address ∙ c.if-not-is_address.true)
 
 pub returns-clause-read : goal.returns-clause-read
 returns-clause-read c = λ rest.
-    link-address c.args.inside.now rest (ap is_absolute (sym c.as_bytes-bytes.ensures.value) ∙ sym c.is_absolute.ensures ∙ c.if-is_absolute.false)
-    (ap is_address (sym c.as_bytes-bytes.ensures.value) ∙ sym c.is_address.ensures ∙ c.if-not-is_address.false)
+    link-address c.args.inside.now rest (ap is_absolute (sym c.as_bytes-bytes.ensures.value) ∙ sym c.is_absolute.ensures.absolute ∙ c.if-is_absolute.false)
+    (ap is_address (sym c.as_bytes-bytes.ensures.value) ∙ sym c.is_address.ensures.address ∙ c.if-not-is_address.false)

@@ -13,10 +13,10 @@ pub returns-then-not-leads_on-clause-read : goal.returns-then-not-leads_on-claus
 returns-then-not-leads_on-clause-read c =
     let rest = drop c.in_ok-link.end c.args.text.now in
     let link = autolink_with c.in_ok-link.link.is_address c.in_ok-link.link.text.now rest in
-    link-not-followed c.args.rules (drop c.args.at c.args.text.now) link (sym c.in_ok-link.ensures.read) (sym (c.leads_on.ensures rest) ∙ c.if-not-leads_on.true)
+    link-not-followed c.args.rules (drop c.args.at c.args.text.now) link (sym c.in_ok-link.ensures.read) (sym (c.leads_on.ensures.followed rest) ∙ c.if-not-leads_on.true)
 
 pub returns-clause-read : goal.returns-clause-read
 returns-clause-read c =
     let rest = drop c.in_ok-link.end c.args.text.now in
     let link = autolink_with c.in_ok-link.link.is_address c.in_ok-link.link.text.now rest in
-    link-followed c.args.rules (drop c.args.at c.args.text.now) link (sym c.in_ok-link.ensures.read) (sym (c.leads_on.ensures rest) ∙ c.if-not-leads_on.false)
+    link-followed c.args.rules (drop c.args.at c.args.text.now) link (sym c.in_ok-link.ensures.read) (sym (c.leads_on.ensures.followed rest) ∙ c.if-not-leads_on.false)

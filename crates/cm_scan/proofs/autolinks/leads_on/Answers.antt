@@ -5,11 +5,13 @@ use Rattle.cm_scan.proofs.lemmas.spans.FollowedAutolinks.{mail-followed}
 use Rattle.cm_scan.proofs.autolinks.leads_on.Goals as goal
 
 pub returns-then-is_address : goal.returns-then-is_address
-returns-then-is_address c rest =
-    let text = c.args.text.now in
-    c.if-is_address.true ∙ sym (ap (λ (t : Bool). is_followed c.args.rules (if t then codes "mailto:" ++ text else text)) c.if-is_address.true ∙ mail-followed c.args.rules text)
+returns-then-is_address c = record {
+  followed = λ rest. let text = c.args.text.now in
+      c.if-is_address.true ∙ sym (ap (λ (t : Bool). is_followed c.args.rules (if t then codes "mailto:" ++ text else text)) c.if-is_address.true ∙ mail-followed c.args.rules text);
+}
 
 pub returns-else-is_address : goal.returns-else-is_address
-returns-else-is_address c rest =
-    let text = c.args.text.now in
-    c.is_followed.ensures ∙ sym (ap (λ (t : Bool). is_followed c.args.rules (if t then codes "mailto:" ++ text else text)) c.if-is_address.false)
+returns-else-is_address c = record {
+  followed = λ rest. let text = c.args.text.now in
+      c.is_followed.ensures.followed ∙ sym (ap (λ (t : Bool). is_followed c.args.rules (if t then codes "mailto:" ++ text else text)) c.if-is_address.false);
+}

@@ -30,10 +30,11 @@ came-off text left None stays utf8 scalar steps = none-left text steps.0
 came-off text left (Some x) stays utf8 scalar steps = ends-with text left x utf8 (scalar x refl) steps
 
 pub returns : goal.returns
-returns c =
-    let text = c.args.text.now in
-    subst (λ t. c.next_back.result ≡ slice_get (reverse (chars t)) 0) (c.chars.ensures.rest ∙ sym (reverse-reverse text))
-    (came-off c.chars.result.rest.now c.next_back.new.self.rest.now c.next_back.result (c.next_back.new.self ≡ c.chars.result) (subst IsUtf8 (sym c.chars.ensures.rest) c.utf8.text) (λ x e. is-scalar c.next_back.result c.next_back.type_inv x e) c.next_back.ensures.steps)
+returns c = record {
+  character = let text = c.args.text.now in
+      subst (λ t. c.next_back.result ≡ slice_get (reverse (chars t)) 0) (c.chars.ensures.rest ∙ sym (reverse-reverse text))
+      (came-off c.chars.result.rest.now c.next_back.new.self.rest.now c.next_back.result (c.next_back.new.self ≡ c.chars.result) (subst IsUtf8 (sym c.chars.ensures.rest) c.utf8.text) (λ x e. is-scalar c.next_back.result c.next_back.type_inv x e) c.next_back.ensures.steps);
+}
   where
     is-scalar : (r : Option ℕ) → lts.r-1.is.Ok c.next_back.lifetimes r → (x : ℕ) → r ≡ Some x → IsScalar x
     is-scalar None ok x e = absurd (cc e)

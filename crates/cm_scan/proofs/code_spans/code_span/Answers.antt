@@ -12,7 +12,7 @@ returns-then-start-at-clause-content c = span-content (drop c.args.at c.args.tex
 pub returns-in_err-close-clause-read : goal.returns-in_err-close-clause-read
 returns-in_err-close-clause-read c =
     ap (reading_of c.args.text.now) c.from_residual.ensures ∙ c.in_err-close.ensures.read
-    ∙ span-is c.args.text.now c.args.at c.after_run-start.result c.after_run-start.ensures.end c.after_run-start.ensures.behind c.if-start-at.false
+    ∙ span-is c.args.text.now c.args.at c.after_run-start.result c.after_run-start.ensures.end c.after_run-start.ensures.beyond c.if-start-at.false
 
 pub returns-in_err-close-clause-content : goal.returns-in_err-close-clause-content
 returns-in_err-close-clause-content c = span-content (drop c.args.at c.args.text.now) _ (returns-in_err-close-clause-read c)
@@ -20,7 +20,7 @@ returns-in_err-close-clause-content c = span-content (drop c.args.at c.args.text
 pub returns-clause-read : goal.returns-clause-read
 returns-clause-read c =
     ap (λ t. Some (record { text = t; rest = drop c.in_ok-close.end c.args.text.now })) c.range.ensures.value ∙ c.in_ok-close.ensures.read
-    ∙ span-is c.args.text.now c.args.at c.after_run-start.result c.after_run-start.ensures.end c.after_run-start.ensures.behind c.if-start-at.false
+    ∙ span-is c.args.text.now c.args.at c.after_run-start.result c.after_run-start.ensures.end c.after_run-start.ensures.beyond c.if-start-at.false
 
 pub returns-clause-content : goal.returns-clause-content
 returns-clause-content c = span-content (drop c.args.at c.args.text.now) _ (returns-clause-read c)

@@ -3,4 +3,4 @@ use Rattle.cm_scan.proofs.html_blocks.is_common_block_name.Goals as goal
 
 pub returns : goal.returns
 unfolding common_block_names
-returns c = c.is_among.ensures
+returns c = record { among = c.is_among.ensures.among }

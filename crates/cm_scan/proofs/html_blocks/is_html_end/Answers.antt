@@ -6,27 +6,29 @@ use Rattle.cm_scan.proofs.html_blocks.is_html_end.Goals as goal
 
 pub returns-in-RawText : goal.returns-in-RawText
 unfolding is_html_end
-returns-in-RawText c = c.holds_raw_text_end.ensures ∙ sym (ap (λ k. is_html_end (kind_of k) c.args.bytes.now) c.in-RawText.is)
+returns-in-RawText c = record { ends = c.holds_raw_text_end.ensures.held ∙ sym (ap (λ k. is_html_end (kind_of k) c.args.bytes.now) c.in-RawText.is) }
 
 pub returns-in-Comment : goal.returns-in-Comment
 unfolding is_html_end
-returns-in-Comment c = c.holds_word.ensures ∙ any_case (codes "-->") c.args.bytes.now refl ∙ sym (ap (λ k. is_html_end (kind_of k) c.args.bytes.now) c.in-Comment.is)
+returns-in-Comment c = record { ends = c.holds_word.ensures.held ∙ any_case (codes "-->") c.args.bytes.now refl ∙ sym (ap (λ k. is_html_end (kind_of k) c.args.bytes.now) c.in-Comment.is) }
 
 pub returns-in-Instruction : goal.returns-in-Instruction
 unfolding is_html_end
-returns-in-Instruction c = c.holds_word-in-Instruction.ensures ∙ any_case (codes "?>") c.args.bytes.now refl ∙ sym (ap (λ k. is_html_end (kind_of k) c.args.bytes.now) c.in-Instruction.is)
+returns-in-Instruction c = record { ends = c.holds_word-in-Instruction.ensures.held ∙ any_case (codes "?>") c.args.bytes.now refl ∙ sym (ap (λ k. is_html_end (kind_of k) c.args.bytes.now) c.in-Instruction.is) }
 
 pub returns-in-Declaration : goal.returns-in-Declaration
 unfolding is_html_end
-returns-in-Declaration c = c.holds_word-in-Declaration.ensures ∙ any_case (codes ">") c.args.bytes.now refl ∙ sym (ap (λ k. is_html_end (kind_of k) c.args.bytes.now) c.in-Declaration.is)
+returns-in-Declaration c = record { ends = c.holds_word-in-Declaration.ensures.held ∙ any_case (codes ">") c.args.bytes.now refl ∙ sym (ap (λ k. is_html_end (kind_of k) c.args.bytes.now) c.in-Declaration.is) }
 
 pub returns-in-CharacterData : goal.returns-in-CharacterData
 unfolding is_html_end
-returns-in-CharacterData c = c.holds_word-in-CharacterData.ensures ∙ any_case (codes "]]>") c.args.bytes.now refl ∙ sym (ap (λ k. is_html_end (kind_of k) c.args.bytes.now) c.in-CharacterData.is)
+returns-in-CharacterData c = record { ends = c.holds_word-in-CharacterData.ensures.held ∙ any_case (codes "]]>") c.args.bytes.now refl ∙ sym (ap (λ k. is_html_end (kind_of k) c.args.bytes.now) c.in-CharacterData.is) }
 
 pub returns-in-BlockTag : goal.returns-in-BlockTag
 unfolding is_html_end
-returns-in-BlockTag c = ⊎_elim
-    (λ is. sym (ap (λ k. is_html_end (kind_of k) c.args.bytes.now) is))
-    (λ is. sym (ap (λ k. is_html_end (kind_of k) c.args.bytes.now) is))
-    c.in-BlockTag.is
+returns-in-BlockTag c = record {
+  ends = ⊎_elim
+      (λ is. sym (ap (λ k. is_html_end (kind_of k) c.args.bytes.now) is))
+      (λ is. sym (ap (λ k. is_html_end (kind_of k) c.args.bytes.now) is))
+      c.in-BlockTag.is;
+}

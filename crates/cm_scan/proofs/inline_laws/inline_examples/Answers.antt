@@ -13,23 +13,23 @@ use Rattle.cm_scan.proofs.inline_laws.inline_examples.Goals as goal
 
 pub returns-clause-code_span : goal.returns-clause-code_span
 unfolding inline_structure
-returns-clause-code_span c = record { simple = refl; longer_run_inside = refl; spaces_stripped = refl; one_space_at_each_end = refl; space_at_one_end = refl; only_spaces = refl; line_endings = refl; no_escapes = refl; before_emphasis = refl; before_a_link = refl; before_a_tag = refl; behind_a_tag = refl; behind_an_autolink = refl; runs_that_do_not_match = refl; no_end = refl; shorter_run_first = refl; shorter_run_between_spaces = refl; two_and_one = refl }
+returns-clause-code_span c = record { simple = refl; longer_run_inside = refl; spaces_stripped = refl; one_space_at_each_end = refl; space_at_one_end = refl; only_spaces = refl; line_endings = refl; no_escapes = refl; before_emphasis = refl; before_a_link = refl; before_a_tag = refl; after_a_tag = refl; after_an_autolink = refl; runs_that_do_not_match = refl; no_end = refl; shorter_run_first = refl; shorter_run_between_spaces = refl; two_and_one = refl }
 
 pub returns-clause-opens_emphasis : goal.returns-clause-opens_emphasis
 unfolding inline_structure
-returns-clause-opens_emphasis c = record { star = refl; star_before_a_space = refl; star_between_a_letter_and_punctuation = refl; star_before_a_no_break_space = refl; star_before_a_symbol = refl; star_before_a_pound_sign = refl; star_before_a_euro_sign = refl; star_inside_a_word = refl; star_between_digits = refl; underscore = refl; underscore_before_a_space = refl; underscore_between_a_letter_and_punctuation = refl; underscore_inside_a_word = refl; underscore_between_digits = refl; underscore_between_cyrillic_letters = refl; underscore_before_a_quotation_mark = refl; underscore_behind_punctuation = refl }
+returns-clause-opens_emphasis c = record { star = refl; star_before_a_space = refl; star_between_a_letter_and_punctuation = refl; star_before_a_no_break_space = refl; star_before_a_symbol = refl; star_before_a_pound_sign = refl; star_before_a_euro_sign = refl; star_inside_a_word = refl; star_between_digits = refl; underscore = refl; underscore_before_a_space = refl; underscore_between_a_letter_and_punctuation = refl; underscore_inside_a_word = refl; underscore_between_digits = refl; underscore_between_cyrillic_letters = refl; underscore_before_a_quotation_mark = refl; underscore_after_punctuation = refl }
 
 pub returns-clause-closes_emphasis : goal.returns-clause-closes_emphasis
 unfolding inline_structure
-returns-clause-closes_emphasis c = record { other_character = refl; star_behind_a_space = refl; star_behind_a_line_ending = refl; star_behind_punctuation = refl; star_in_emphasis = refl; star_inside_a_word = refl; underscore_behind_a_space = refl; underscore_behind_punctuation = refl; underscore_in_emphasis = refl; underscore_inside_a_word = refl; underscores_inside_a_word = refl; underscore_before_a_full_stop = refl }
+returns-clause-closes_emphasis c = record { other_character = refl; star_after_a_space = refl; star_after_a_line_ending = refl; star_after_punctuation = refl; star_in_emphasis = refl; star_inside_a_word = refl; underscore_after_a_space = refl; underscore_after_punctuation = refl; underscore_in_emphasis = refl; underscore_inside_a_word = refl; underscores_inside_a_word = refl; underscore_before_a_full_stop = refl }
 
 pub returns-clause-opens_strong : goal.returns-clause-opens_strong
 unfolding inline_structure
-returns-clause-opens_strong c = record { stars = refl; stars_before_a_space = refl; stars_between_a_letter_and_punctuation = refl; stars_inside_a_word = refl; underscores = refl; underscores_before_a_space = refl; underscores_before_a_line_ending = refl; underscores_between_a_letter_and_punctuation = refl; underscores_inside_a_word = refl; underscores_in_strong = refl; underscores_behind_punctuation = refl }
+returns-clause-opens_strong c = record { stars = refl; stars_before_a_space = refl; stars_between_a_letter_and_punctuation = refl; stars_inside_a_word = refl; underscores = refl; underscores_before_a_space = refl; underscores_before_a_line_ending = refl; underscores_between_a_letter_and_punctuation = refl; underscores_inside_a_word = refl; underscores_in_strong = refl; underscores_after_punctuation = refl }
 
 pub returns-clause-closes_strong : goal.returns-clause-closes_strong
 unfolding inline_structure
-returns-clause-closes_strong c = record { stars_behind_a_space = refl; stars_behind_punctuation = refl; stars_in_emphasis = refl; emphasis_in_quotation_marks = refl; stars_inside_a_word = refl; underscores_behind_a_space = refl; underscores_behind_punctuation = refl; underscores_in_emphasis = refl; underscores_inside_a_word = refl; underscores_inside_words = refl; underscores_before_a_full_stop = refl }
+returns-clause-closes_strong c = record { stars_after_a_space = refl; stars_after_punctuation = refl; stars_in_emphasis = refl; emphasis_in_quotation_marks = refl; stars_inside_a_word = refl; underscores_after_a_space = refl; underscores_after_punctuation = refl; underscores_in_emphasis = refl; underscores_inside_a_word = refl; underscores_inside_words = refl; underscores_before_a_full_stop = refl }
 
 pub returns-clause-inside_emphasis : goal.returns-clause-inside_emphasis
 unfolding inline_structure
@@ -37,7 +37,7 @@ returns-clause-inside_emphasis c = record { link = refl; line_ending = refl; str
 
 pub returns-clause-left_over : goal.returns-clause-left_over
 unfolding inline_structure
-returns-clause-left_over c = record { three_stars = refl; escaped_star = refl; underscore_inside = refl; escaped_star_in_strong = refl; one_star_before = refl; one_star_behind = refl; star_before_strong = refl; three_stars_before = refl; star_behind_strong = refl; three_stars_behind = refl; three_underscores = refl; escaped_underscore = refl; star_inside = refl; one_underscore_before = refl; underscore_behind_strong = refl }
+returns-clause-left_over c = record { three_stars = refl; escaped_star = refl; underscore_inside = refl; escaped_star_in_strong = refl; one_star_before = refl; one_star_after = refl; star_before_strong = refl; three_stars_before = refl; star_after_strong = refl; three_stars_after = refl; three_underscores = refl; escaped_underscore = refl; star_inside = refl; one_underscore_before = refl; underscore_after_strong = refl }
 
 pub returns-clause-ambiguity : goal.returns-clause-ambiguity
 unfolding inline_structure
@@ -49,11 +49,11 @@ returns-clause-inline_link c = record { with_a_title = refl; without_a_title = r
 
 pub returns-clause-reference_link : goal.returns-clause-reference_link
 unfolding inline_structure
-returns-clause-reference_link c = record { full = refl; brackets_inside = refl; link_inside = refl; reference_inside = refl; emphasis_across_the_end = refl; folded_label = refl; sharp_s = refl; line_ending_in_a_label = refl; space_between = refl; first_of_two = refl; compared_as_written = refl; bracket_in_a_label = refl; escaped_bracket_in_a_label = refl; label_without_a_character = refl; collapsed = refl; collapsed_with_emphasis = refl; collapsed_in_capitals = refl; shortcut = refl; shortcut_in_brackets = refl; shortcut_behind_open_brackets = refl; shortcut_before_text = refl; escaped_opener = refl; shortcut_with_a_star = refl; full_before_shortcut = refl; inline_before_reference = refl; no_inline_link = refl; label_that_is_not_defined = refl; two_full = refl; no_shortcut_before_a_label = refl; other_label_not_defined = refl }
+returns-clause-reference_link c = record { full = refl; brackets_inside = refl; link_inside = refl; reference_inside = refl; emphasis_across_the_end = refl; folded_label = refl; sharp_s = refl; line_ending_in_a_label = refl; space_between = refl; first_of_two = refl; compared_as_written = refl; bracket_in_a_label = refl; escaped_bracket_in_a_label = refl; label_without_a_character = refl; collapsed = refl; collapsed_with_emphasis = refl; collapsed_in_capitals = refl; shortcut = refl; shortcut_in_brackets = refl; shortcut_after_open_brackets = refl; shortcut_before_text = refl; escaped_opener = refl; shortcut_with_a_star = refl; full_before_shortcut = refl; inline_before_reference = refl; no_inline_link = refl; label_that_is_not_defined = refl; two_full = refl; no_shortcut_before_a_label = refl; other_label_not_defined = refl }
 
 pub returns-clause-image : goal.returns-clause-image
 unfolding inline_structure
-returns-clause-image c = record { with_a_title = refl; image_inside = refl; link_inside = refl; emphasis_inside = refl; in_a_link = refl; links_in_an_image = refl; link_in_an_image_in_a_link = refl; behind_text = refl; destination_in_angles = refl; without_a_text = refl; full_reference = refl; collapsed_reference = refl; shortcut_reference = refl; double_brackets = refl; escaped_bracket = refl; escaped_exclamation_mark = refl }
+returns-clause-image c = record { with_a_title = refl; image_inside = refl; link_inside = refl; emphasis_inside = refl; in_a_link = refl; links_in_an_image = refl; link_in_an_image_in_a_link = refl; beyond_text = refl; destination_in_angles = refl; without_a_text = refl; full_reference = refl; collapsed_reference = refl; shortcut_reference = refl; double_brackets = refl; escaped_bracket = refl; escaped_exclamation_mark = refl }
 
 pub returns-clause-autolink : goal.returns-clause-autolink
 unfolding inline_structure
@@ -61,7 +61,7 @@ returns-clause-autolink c = record { http = refl; query = refl; capitals = refl;
 
 pub returns-clause-raw_html : goal.returns-clause-raw_html
 unfolding inline_structure
-returns-clause-raw_html c = record { open_tags = refl; empty_elements = refl; attributes = refl; custom_names = refl; names_that_are_none = refl; attribute_that_is_none = refl; value_that_does_not_end = refl; space_in_front = refl; no_gap_between_attributes = refl; closing_tags = refl; closing_tag_with_attribute = refl; comment = refl; short_comments = refl; instruction = refl; declaration = refl; character_data = refl; reference_inside = refl; backslash_inside = refl; quotation_mark_escaped = refl; behind_a_line_ending = refl; letter_behind_a_value = refl; shortest_comment = refl }
+returns-clause-raw_html c = record { open_tags = refl; empty_elements = refl; attributes = refl; custom_names = refl; names_that_are_none = refl; attribute_that_is_none = refl; value_that_does_not_end = refl; space_in_front = refl; no_gap_between_attributes = refl; closing_tags = refl; closing_tag_with_attribute = refl; comment = refl; short_comments = refl; instruction = refl; declaration = refl; character_data = refl; reference_inside = refl; backslash_inside = refl; quotation_mark_escaped = refl; after_a_line_ending = refl; letter_after_a_value = refl; shortest_comment = refl }
 
 pub returns-clause-line_break : goal.returns-clause-line_break
 unfolding inline_structure

@@ -54,19 +54,19 @@ containers = record {
 definitions : DefinitionExamples
 unfolding block_structure
 definitions = record {
-  text_behind_a_title = record { tree = refl; lines = refl };
+  text_after_a_title = record { tree = refl; lines = refl };
   title_that_is_none = record { tree = refl; lines = refl };
   definition_interrupts_nothing = record { tree = refl; lines = refl };
   title_over_lines = record { tree = refl; lines = refl };
-  lazy_line_behind_a_definition = record { tree = refl; lines = refl };
-  underline_behind_definitions = record { tree = refl; lines = refl };
-  heading_behind_a_definition = record { tree = refl; lines = refl };
-  break_behind_a_definition = record { tree = refl; lines = refl };
+  lazy_line_after_a_definition = record { tree = refl; lines = refl };
+  underline_after_definitions = record { tree = refl; lines = refl };
+  heading_after_a_definition = record { tree = refl; lines = refl };
+  break_after_a_definition = record { tree = refl; lines = refl };
   destination_in_angles = record { tree = refl; lines = refl };
   resolved = record { tree = refl; lines = refl };
   first_of_a_list = record { tree = refl; lines = refl };
   second_item = record { tree = refl; lines = refl };
-  blank_behind_it = record { tree = refl; lines = refl };
+  blank_after_it = record { tree = refl; lines = refl };
   definition_in_an_item = record { tree = refl; lines = refl };
   definition_makes_it_loose = record { tree = refl; lines = refl };
 }

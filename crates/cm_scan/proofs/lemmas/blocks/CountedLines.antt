@@ -12,7 +12,7 @@ use Rattle.cm_scan.specs.blocks.Lines.{is_blank, content_of, marks}
 use Rattle.cm_scan.specs.blocks.LineForms.{Fence, ItemMarker}
 use Rattle.cm_scan.specs.blocks.HtmlBlocks.{HtmlKind}
 use Rattle.cm_scan.specs.inlines.Links.{LinkDefinition, label, link_definition, Definitions, definitions_within, definitions_of}
-use Rattle.cm_scan.specs.blocks.Starts.{Start, QuoteMarker, start_of, Continuation, Stays, StaysIfOpen, Leaves, behind_quote_marker, continuation_in_quote, first_content, continuation_in_item}
+use Rattle.cm_scan.specs.blocks.Starts.{Start, QuoteMarker, start_of, Continuation, Stays, StaysIfOpen, Leaves, after_quote_marker, continuation_in_quote, first_content, continuation_in_item}
 use Rattle.cm_scan.specs.blocks.Parts.{LeafPart, Parts, none, blank, leaf, quote, list, ItemParts, leaves_paragraph_open, next_items, put_before, put_item, put_leaves}
 use Rattle.cm_scan.specs.blocks.Blocks.{add_text, rest_of, NextLine, GoesOn, Ends, Underlines, next_line, TextRun, text_run, line_feeds, line_count, definition_leaves, content_leaf, leaves_of_run, fenced, html_to_end, html_to_blank, html_lines, indented, Inside, inside, is_bare}
 use Rattle.cm_scan.specs.blocks.Starts.{IndentedCode, AtxHeading, OpeningFence, HtmlStart, BreakLine, ItemStart, TextLine, content_column}
@@ -20,8 +20,8 @@ use Rattle.cm_scan.specs.blocks.Blocks.{code_line, quote_parts, item_parts, fenc
 use Rattle.cm_scan.specs.blocks.Parts.{line_owners}
 use Rattle.cm_scan.specs.blocks.Lines.{size}
 use Rattle.cm_scan.specs.laws.PartLaws.{OneOwnerALine, RunsInOrder}
-use Rattle.cm_scan.proofs.lemmas.texts.ByteSums.{AddsUp, NoMore, sum-append, sum-behind_quote_marker, sum-first_content, no_more-quote, no_more-item}
-use Rattle.cm_scan.proofs.lemmas.blocks.LineSizes.{by_continuation, marks-behind_quote_marker, marks-first_content, keeps-quote, keeps-item, size-fenced, size-html_lines, size-indented, size-text_run, size-following, size-inner, some-inner}
+use Rattle.cm_scan.proofs.lemmas.texts.ByteSums.{AddsUp, NoMore, sum-append, sum-after_quote_marker, sum-first_content, no_more-quote, no_more-item}
+use Rattle.cm_scan.proofs.lemmas.blocks.LineSizes.{by_continuation, marks-after_quote_marker, marks-first_content, keeps-quote, keeps-item, size-fenced, size-html_lines, size-indented, size-text_run, size-following, size-inner, some-inner}
 use Rattle.cm_scan.proofs.lemmas.blocks.PartsByCases.{no_lines, blank_case, starting}
 use Rattle.cm_scan.proofs.lemmas.links.LineFeedsLeft.{feeds-skip, takes_a_line}
 use Rattle.cm_scan.specs.laws.Looseness.{line_total, items_total, HaveLines, ItemsHaveLines, PartsHaveLines}
@@ -291,7 +291,7 @@ text_run-of rules source (line ∷ lines) h p =
 
 -- trimming takes no line feed, and not all
 
-feeds-keep_byte : (b : ℕ) (bs : List ℕ) → line_feeds (keep_byte true b bs) ≡ line_feeds (b ∷ bs)
+feeds-keep_byte : (b : ℕ) (bs : List ℕ) → line_feeds (keep_byte is_space_or_tab b bs) ≡ line_feeds (b ∷ bs)
 unfolding line_feeds
 feeds-keep_byte b [] = grind arith
 feeds-keep_byte b (c ∷ cs) = refl
@@ -301,10 +301,10 @@ unfolding trim_end_by line_feeds
 feeds_trimmed [] = refl
 feeds_trimmed (b ∷ bs) =
     let h : line_feeds (trim_end bs) ≡ line_feeds bs = feeds_trimmed bs in
-    let k : line_feeds (keep_byte true b (trim_end bs)) ≡ line_feeds (b ∷ trim_end bs) = feeds-keep_byte b (trim_end bs) in
+    let k : line_feeds (keep_byte is_space_or_tab b (trim_end bs)) ≡ line_feeds (b ∷ trim_end bs) = feeds-keep_byte b (trim_end bs) in
     grind (arith, h, k)
 
-firm-keep_byte : (b : ℕ) (bs : List ℕ) → is_space_or_tab b ≡ false → Firm (keep_byte true b bs)
+firm-keep_byte : (b : ℕ) (bs : List ℕ) → is_space_or_tab b ≡ false → Firm (keep_byte is_space_or_tab b bs)
 firm-keep_byte b [] e = grind (arith, e)
 firm-keep_byte b (c ∷ cs) e = e
 
@@ -524,11 +524,11 @@ module _ (rules : Rules) (line : LineView) (lines : List LineView) (plain : Plai
   unfolding quote_parts size line_total HaveLines
   good-quote =
       let continuation : Bool → LineView → Continuation = λ bare l. continuation_in_quote rules l in
-      let first = behind_quote_marker line in
-      let less : marks first.text < marks line.text = marks-behind_quote_marker line firm in
+      let first = after_quote_marker line in
+      let less : marks first.text < marks line.text = marks-after_quote_marker line firm in
       let i = inside rules (parts_of rules) continuation (first ∷ []) lines in
       let w = inside-whole rules (parts_of rules) continuation (λ bare l. no_more-quote line_feeds feeds-adds rules l) (first ∷ []) lines
-      (zero-le _ _ (sum-behind_quote_marker line_feeds feeds-adds line) plain.0, tt) plain.1 in
+      (zero-le _ _ (sum-after_quote_marker line_feeds feeds-adds line) plain.0, tt) plain.1 in
       let g = good i.inner (omega (arith, size-inner rules (parts_of rules) continuation (λ bare l. keeps-quote rules l) (first ∷ []) lines)) w.1 in
       let h = good i.following (omega (arith, size-following rules (parts_of rules) continuation (first ∷ []) lines)) w.2 in
       let some : 0 < length i.inner = some-inner rules (parts_of rules) continuation (first ∷ []) lines (omega arith) in

@@ -1,23 +1,26 @@
 -- Each heading that lines make has a level from 1 to 6.
 use Rattle.std.proofs.Common.{◌≡◌, ℕ, zero, suc, Bool, true, false, not, ◌&&◌, List, [], ◌∷◌, ◌++◌, map, refl, ap, ◌∙◌, Some, None, IfSome, arith}
 use Rattle.std.specs.Prelude.{⊤, Option, nat_le}
+use Rattle.std.specs.Option.{option_map}
 use Rattle.cm_text.specs.Rules.{Rules}
 use Rattle.cm_text.specs.Lines.{LineView}
-use Rattle.cm_tree.specs.declared.tree.Block.{Block}
+use Rattle.std.specs.List.{list_all}
 use Rattle.cm_tree.specs.declared.tree.Block.TheFolds.{fold_out-Block}
-use Rattle.cm_tree.specs.declared.tree.Block.TheVariants.{Quote, List as ListBlock, outs-Paragraph, outs-Heading, outs-Code, outs-Html, outs-Break, outs-Definition, outs-Quote, outs-List}
+use Rattle.cm_tree.specs.declared.tree.Block.TheVariants.{Quote, List as ListBlock, outs-Paragraph, outs-Heading, outs-Code, outs-Html, outs-Break, outs-Definition}
 use Rattle.cm_tree.specs.declared.tree.ListKind.{ListKind}
-use Rattle.cm_tree.specs.HeadingLevels.{is_level, level_step, has_levels, have_levels, all_of_items}
+use Rattle.cm_tree.specs.HeadingLevels.{is_level, level_step, has_levels, have_levels, all_of}
 use Rattle.cm_text.specs.Indentation.{indent_of}
 use Rattle.cm_scan.specs.Words.{given, ◌<|>◌, begins_with, is_at_gap, run_length, after_run, trim, trim_end, is_empty}
 use Rattle.cm_scan.specs.blocks.Lines.{size, is_blank, content_of}
 use Rattle.cm_scan.specs.inlines.Links.{LinkDefinition, definitions_of}
 use Rattle.cm_scan.specs.blocks.LineForms.{Heading, without_closing, atx_heading, underline, is_underline_of, opening_fence, is_thematic_break, item_marker, Fence, ItemMarker}
 use Rattle.cm_scan.specs.blocks.HtmlBlocks.{HtmlKind, html_start}
-use Rattle.cm_scan.specs.blocks.Starts.{Start, IndentedCode, QuoteMarker, AtxHeading, OpeningFence, HtmlStart, BreakLine, ItemStart, TextLine, start_of, start_by, start_of_content, seen_as, or_text, underline_if, underline_of, interrupts_paragraph, content_column, first_content, continuation_in_item}
+use Rattle.cm_scan.specs.blocks.Starts.{Start, IndentedCode, QuoteMarker, AtxHeading, OpeningFence, HtmlStart, BreakLine, ItemStart, TextLine, start_of, start_of_content, or_text, underline_of, interrupts_paragraph, content_column, first_content, continuation_in_item}
 use Rattle.cm_scan.specs.blocks.Parts.{LeafPart, paragraph, heading, code, html, thematic_break, definition, Parts, none, blank, leaf, quote, list, ItemParts, last_item, item, leaf_block, is_loose, blocks_of_parts, blocks_of_items, next_items, put_before, put_item, put_leaves}
 use Rattle.cm_scan.specs.blocks.Blocks.{NextLine, GoesOn, Ends, Underlines, by_underline, next_line, TextRun, text_run, definition_leaves, content_leaf, leaves_of_run, quote_parts, item_parts, fence_parts, html_parts, code_parts, text_parts, parts_by_start, parts_by_cases, parts_within, parts_of, blocks_of, inside, add_text, rest_of}
 use Rattle.cm_scan.specs.laws.PartLaws.{HeadingLevels}
+use Rattle.cm_scan.specs.steps.LineSteps.{start_by, underline_if}
+use Rattle.cm_tree.proofs.lemmas.BlockFolds as block_fold
 
 -- ---- of the parts
 
@@ -47,12 +50,6 @@ leaf-level (html text) h = simp (fold_out-Block Bool level_step, outs-Html)
 leaf-level thematic_break h = simp (fold_out-Block Bool level_step, outs-Break)
 leaf-level (definition label dest title) h = simp (fold_out-Block Bool level_step, outs-Definition)
 
-quote-levels : (blocks : List Block) → has_levels (Quote blocks) ≡ have_levels blocks
-quote-levels blocks = simp (fold_out-Block Bool level_step, outs-Quote)
-
-list-levels : (kind : ListKind) (tight : Bool) (items : List (List Block)) → has_levels (ListBlock kind tight items) ≡ all_of_items (map (map has_levels) items)
-list-levels kind tight items = simp (fold_out-Block Bool level_step, outs-List)
-
 both : (a b : Bool) → a ≡ true → b ≡ true → (a && b) ≡ true
 both a b p q = ap (λ t. t && b) p ∙ q
 
@@ -64,14 +61,14 @@ mutual
   tree-levels (blank rest) h = tree-levels rest h
   tree-levels (leaf x lines rest) h = both (has_levels (leaf_block x)) (have_levels (blocks_of_parts rest)) (leaf-level x h.0) (tree-levels rest h.1)
   tree-levels (quote inside rest) h =
-      both (has_levels (Quote (blocks_of_parts inside))) (have_levels (blocks_of_parts rest)) (quote-levels (blocks_of_parts inside) ∙ tree-levels inside h.0) (tree-levels rest h.1)
+      both (has_levels (Quote (blocks_of_parts inside))) (have_levels (blocks_of_parts rest)) (block_fold.quote level_step (blocks_of_parts inside) ∙ tree-levels inside h.0) (tree-levels rest h.1)
   tree-levels (list kind items rest) h =
       both (has_levels (ListBlock kind (not (is_loose items)) (blocks_of_items items))) (have_levels (blocks_of_parts rest))
-      (list-levels kind (not (is_loose items)) (blocks_of_items items) ∙ item-levels items h.0) (tree-levels rest h.1)
+      (block_fold.list level_step kind (not (is_loose items)) (blocks_of_items items) ∙ item-levels items h.0) (tree-levels rest h.1)
 
-  item-levels : (items : ItemParts) → ItemLevels items → all_of_items (map (map has_levels) (blocks_of_items items)) ≡ true
+  item-levels : (items : ItemParts) → ItemLevels items → list_all all_of (map (map has_levels) (blocks_of_items items)) ≡ true
   item-levels (last_item inside) h = both (have_levels (blocks_of_parts inside)) true (tree-levels inside h) refl
-  item-levels (item inside blanks items) h = both (have_levels (blocks_of_parts inside)) (all_of_items (map (map has_levels) (blocks_of_items items))) (tree-levels inside h.0) (item-levels items h.1)
+  item-levels (item inside blanks items) h = both (have_levels (blocks_of_parts inside)) (list_all all_of (map (map has_levels) (blocks_of_items items))) (tree-levels inside h.0) (item-levels items h.1)
 
 -- ---- an item before what follows it
 
@@ -151,12 +148,12 @@ start-level rules line = by_mark line.lazy (nat_le 4 (indent_of line)) (start_of
     by_mark false true start h = tt
     by_mark false false start h = h
 
-    rest : (atx : Option Heading) (others : Option Start) → HeadingLevel atx → StartLevel (or_text others) → StartLevel (or_text (seen_as AtxHeading atx <|> others))
+    rest : (atx : Option Heading) (others : Option Start) → HeadingLevel atx → StartLevel (or_text others) → StartLevel (or_text (option_map AtxHeading atx <|> others))
     rest None others h k = k
     rest (Some atx) others h k = h
 
     others : (fence : Option Fence) (kind : Option HtmlKind) (t : Bool) (marker : Option ItemMarker)
-        → StartLevel (or_text (seen_as OpeningFence fence <|> seen_as HtmlStart kind <|> given t BreakLine <|> seen_as ItemStart marker))
+        → StartLevel (or_text (option_map OpeningFence fence <|> option_map HtmlStart kind <|> given t BreakLine <|> option_map ItemStart marker))
     others (Some fence) kind t marker = tt
     others None (Some kind) t marker = tt
     others None None true marker = tt
@@ -169,8 +166,8 @@ start-level rules line = by_mark line.lazy (nat_le 4 (indent_of line)) (start_of
 
     content-level : (text : List ℕ) → StartLevel (start_of_content rules text)
     content-level text =
-        let later = seen_as OpeningFence (opening_fence text) <|> seen_as HtmlStart (html_start rules text) <|> given (is_thematic_break text) BreakLine <|> seen_as ItemStart (item_marker text) in
-        quoted (begins_with 62 text) (seen_as AtxHeading (atx_heading text) <|> later)
+        let later = option_map OpeningFence (opening_fence text) <|> option_map HtmlStart (html_start rules text) <|> given (is_thematic_break text) BreakLine <|> option_map ItemStart (item_marker text) in
+        quoted (begins_with 62 text) (option_map AtxHeading (atx_heading text) <|> later)
         (rest (atx_heading text) later (atx-level text) (others (opening_fence text) (html_start rules text) (is_thematic_break text) (item_marker text)))
 
 -- ---- runs of text

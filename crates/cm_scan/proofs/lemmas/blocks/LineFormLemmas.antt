@@ -198,12 +198,12 @@ module _ (bs : List ℕ) (e : ℕ) (all : list_all is_hash (drop e bs) ≡ true)
     before = before_place 32 e bs some within
 
     -- a run of `#` after a gap
-    pub closing_behind_gap : is_space_or_tab (get_or bs (e - 1) 0) ≡ true → without_closing true bs ≡ take e bs
-    closing_behind_gap gap = closing_goes 32 e bs all (λ h. grind (arith, sym before ∙ h, gap)) (ap is_space_or_tab before ∙ gap)
+    pub closing_after_gap : is_space_or_tab (get_or bs (e - 1) 0) ≡ true → without_closing true bs ≡ take e bs
+    closing_after_gap gap = closing_goes 32 e bs all (λ h. grind (arith, sym before ∙ h, gap)) (ap is_space_or_tab before ∙ gap)
 
     -- a run of `#` after another byte, or none
-    pub closing_behind_other : (get_or bs (e - 1) 0 ≡ 35 → ⊥) → is_space_or_tab (get_or bs (e - 1) 0) ≡ false → without_closing true bs ≡ bs
-    closing_behind_other other plain = closing_stays 32 e bs all (λ h. other (sym before ∙ h)) (ap is_space_or_tab before ∙ plain)
+    pub closing_after_other : (get_or bs (e - 1) 0 ≡ 35 → ⊥) → is_space_or_tab (get_or bs (e - 1) 0) ≡ false → without_closing true bs ≡ bs
+    closing_after_other other plain = closing_stays 32 e bs all (λ h. other (sym before ∙ h)) (ap is_space_or_tab before ∙ plain)
 
 -- ATX headings, by the run of `#` and what is after it
 

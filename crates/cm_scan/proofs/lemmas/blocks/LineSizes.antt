@@ -8,7 +8,7 @@ use Rattle.cm_scan.specs.blocks.Lines.{is_blank, past, marks, size}
 use Rattle.cm_scan.specs.blocks.LineForms.{Fence, ItemMarker}
 use Rattle.cm_scan.specs.blocks.HtmlBlocks.{HtmlKind}
 use Rattle.cm_scan.specs.blocks.Parts.{Parts, leaves_paragraph_open}
-use Rattle.cm_scan.specs.blocks.Starts.{Continuation, Stays, StaysIfOpen, Leaves, behind_quote_marker, continuation_in_quote, content_offset, behind_marker, first_content, continuation_in_item}
+use Rattle.cm_scan.specs.blocks.Starts.{Continuation, Stays, StaysIfOpen, Leaves, after_quote_marker, continuation_in_quote, content_offset, after_marker, first_content, continuation_in_item}
 use Rattle.cm_scan.specs.blocks.Blocks.{text_run, fenced, html_to_end, html_to_blank, html_lines, indented, Inside, inside, is_bare}
 use Rattle.cm_scan.proofs.lemmas.texts.ByteSums.{AddsUp, NoMore, sum-drop, sum-strip, no_more-quote, no_more-item}
 
@@ -33,18 +33,18 @@ marks-past n (b ∷ bs) e =
 
 -- the first line of a quote and of an item has one less
 
-pub marks-behind_quote_marker : (line : LineView) → is_blank line ≡ false → marks (behind_quote_marker line).text < marks line.text
-unfolding past behind_quote_marker
-marks-behind_quote_marker line e =
+pub marks-after_quote_marker : (line : LineView) → is_blank line ≡ false → marks (after_quote_marker line).text < marks line.text
+unfolding past after_quote_marker
+marks-after_quote_marker line e =
     let h : marks (drop 1 (trim_start line.text)) < marks line.text = marks-past 0 line.text e in
-    let k : marks (behind_quote_marker line).text ≤ marks (past 1 line).text = sum-strip marks marks-adds 1 (past 1 line) in
+    let k : marks (after_quote_marker line).text ≤ marks (past 1 line).text = sum-strip marks marks-adds 1 (past 1 line) in
     omega (arith, h, k)
 
 pub marks-first_content : (marker : ItemMarker) (line : LineView) → is_blank line ≡ false → marks (first_content marker line).text < marks line.text
 unfolding past first_content
 marks-first_content marker line e =
     let h : marks (drop (suc marker.digits) (trim_start line.text)) < marks line.text = marks-past marker.digits line.text e in
-    let k : marks (first_content marker line).text ≤ marks (behind_marker marker line).text = sum-strip marks marks-adds (content_offset (behind_marker marker line)) (behind_marker marker line) in
+    let k : marks (first_content marker line).text ≤ marks (after_marker marker line).text = sum-strip marks marks-adds (content_offset (after_marker marker line)) (after_marker marker line) in
     omega (arith, h, k)
 
 -- what stays goes inward with no more

@@ -113,20 +113,20 @@ later false starts = drop 1 starts
 
 -- blocks that follow a front, which start one after the other
 abbrev gaps : Bool → List Owner → ℕ → Parts → Bool
-gaps behind front n p = list_any (is_after_blank (front ++ owners_after n p)) (later behind (block_starts (length front) p))
+gaps beyond front n p = list_any (is_after_blank (front ++ owners_after n p)) (later beyond (block_starts (length front) p))
 
 -- one block more
-one-more : (behind blank_before : Bool) (owners : List Owner) (start : ℕ) (starts : List ℕ) → is_after_blank owners start ≡ blank_before
-    → list_any (is_after_blank owners) (later behind (start ∷ starts)) ≡ ((behind && blank_before) || list_any (is_after_blank owners) starts)
+one-more : (beyond blank_before : Bool) (owners : List Owner) (start : ℕ) (starts : List ℕ) → is_after_blank owners start ≡ blank_before
+    → list_any (is_after_blank owners) (later beyond (start ∷ starts)) ≡ ((beyond && blank_before) || list_any (is_after_blank owners) starts)
 one-more true blank_before owners start starts e = ap (λ b. b || list_any (is_after_blank owners) starts) e
 one-more false blank_before owners start starts e = refl
 
 -- a block of the given number of lines, and what follows it
-next : (behind : Bool) (front block : List Owner) (n : ℕ) (rest : Parts) (lines : ℕ) (ends : Bool) → length block ≡ lines → last_blank false (front ++ block) ≡ ends
+next : (beyond : Bool) (front block : List Owner) (n : ℕ) (rest : Parts) (lines : ℕ) (ends : Bool) → length block ≡ lines → last_blank false (front ++ block) ≡ ends
     → is_separated true (last_blank false (front ++ block)) rest ≡ gaps true (front ++ block) n rest
-    → ((behind && last_blank false front) || is_separated true ends rest)
-    ≡ list_any (is_after_blank (front ++ (block ++ owners_after n rest))) (later behind (length front ∷ block_starts (length front + lines) rest))
-next behind front block n rest lines ends count last more =
+    → ((beyond && last_blank false front) || is_separated true ends rest)
+    ≡ list_any (is_after_blank (front ++ (block ++ owners_after n rest))) (later beyond (length front ∷ block_starts (length front + lines) rest))
+next beyond front block n rest lines ends count last more =
     let owners = front ++ (block ++ owners_after n rest) in
     let far : length (front ++ block) ≡ length front + lines = omega (arith, length-append front block, count) in
     let same : (front ++ block) ++ owners_after n rest ≡ owners = append_assoc front block (owners_after n rest) in
@@ -134,36 +134,36 @@ next behind front block n rest lines ends count last more =
     ap (λ b. is_separated true b rest) (sym last) ∙ more
     ∙ ap (λ os. list_any (is_after_blank os) (block_starts (length (front ++ block)) rest)) same
     ∙ ap (λ k. list_any (is_after_blank owners) (block_starts k rest)) far in
-    ap (λ b. (behind && last_blank false front) || b) tail
-    ∙ sym (one-more behind (last_blank false front) owners (length front) (block_starts (length front + lines) rest) (after-front front (block ++ owners_after n rest)))
+    ap (λ b. (beyond && last_blank false front) || b) tail
+    ∙ sym (one-more beyond (last_blank false front) owners (length front) (block_starts (length front + lines) rest) (after-front front (block ++ owners_after n rest)))
 
 -- whether blocks are parted, after a front of lines
-separated : (behind : Bool) (front : List Owner) (n : ℕ) (p : Parts) → HaveLines p
-    → is_separated behind (last_blank false front) p ≡ gaps behind front n p
+separated : (beyond : Bool) (front : List Owner) (n : ℕ) (p : Parts) → HaveLines p
+    → is_separated beyond (last_blank false front) p ≡ gaps beyond front n p
 unfolding is_separated owners_after block_starts HaveLines
 separated true front n none have = refl
 separated false front n none have = refl
-separated behind front n (blank rest) have = go (last-append false front (Blank ∷ [])) (length-append front (Blank ∷ [])) (append_assoc front (Blank ∷ []) (owners_after n rest)) (separated behind (front ++ Blank ∷ []) n rest have)
+separated beyond front n (blank rest) have = go (last-append false front (Blank ∷ [])) (length-append front (Blank ∷ [])) (append_assoc front (Blank ∷ []) (owners_after n rest)) (separated beyond (front ++ Blank ∷ []) n rest have)
   where
     go : last_blank false (front ++ Blank ∷ []) ≡ true → length (front ++ Blank ∷ []) ≡ length front + 1
         → (front ++ Blank ∷ []) ++ owners_after n rest ≡ front ++ Blank ∷ owners_after n rest
-        → is_separated behind (last_blank false (front ++ Blank ∷ [])) rest ≡ gaps behind (front ++ Blank ∷ []) n rest
-        → is_separated behind true rest ≡ list_any (is_after_blank (front ++ Blank ∷ owners_after n rest)) (later behind (block_starts (suc (length front)) rest))
+        → is_separated beyond (last_blank false (front ++ Blank ∷ [])) rest ≡ gaps beyond (front ++ Blank ∷ []) n rest
+        → is_separated beyond true rest ≡ list_any (is_after_blank (front ++ Blank ∷ owners_after n rest)) (later beyond (block_starts (suc (length front)) rest))
     go e l a h =
         let more : length (front ++ Blank ∷ []) ≡ suc (length front) = omega (arith, l) in
-        ap (λ b. is_separated behind b rest) (sym e) ∙ h
-        ∙ ap (λ os. list_any (is_after_blank os) (later behind (block_starts (length (front ++ Blank ∷ [])) rest))) a
-        ∙ ap (λ k. list_any (is_after_blank (front ++ Blank ∷ owners_after n rest)) (later behind (block_starts k rest))) more
-separated behind front n (leaf x lines rest) have =
-    next behind front (replicate lines (Leaf (suc n))) (suc n) rest lines false (length-replicate lines (Leaf (suc n))) (last-append false front _ ∙ last-some_leaf _ (suc n) lines have.0)
+        ap (λ b. is_separated beyond b rest) (sym e) ∙ h
+        ∙ ap (λ os. list_any (is_after_blank os) (later beyond (block_starts (length (front ++ Blank ∷ [])) rest))) a
+        ∙ ap (λ k. list_any (is_after_blank (front ++ Blank ∷ owners_after n rest)) (later beyond (block_starts k rest))) more
+separated beyond front n (leaf x lines rest) have =
+    next beyond front (replicate lines (Leaf (suc n))) (suc n) rest lines false (length-replicate lines (Leaf (suc n))) (last-append false front _ ∙ last-some_leaf _ (suc n) lines have.0)
     (separated true (front ++ replicate lines (Leaf (suc n))) (suc n) rest have.1)
-separated behind front n (quote inside rest) have =
+separated beyond front n (quote inside rest) have =
     let some : 0 < length (owners_after n inside) = omega (arith, one_owner_a_line n inside, have.0) in
-    next behind front (map marked (owners_after n inside)) (n + leaf_count inside) rest (line_total inside) false (length-marked (owners_after n inside) ∙ one_owner_a_line n inside)
+    next beyond front (map marked (owners_after n inside)) (n + leaf_count inside) rest (line_total inside) false (length-marked (owners_after n inside) ∙ one_owner_a_line n inside)
     (last-append false front _ ∙ last-some_marked _ (owners_after n inside) some)
     (separated true (front ++ map marked (owners_after n inside)) (n + leaf_count inside) rest have.2)
-separated behind front n (list kind items rest) have =
-    next behind front (item_owners_after n items) (n + item_leaf_count items) rest (items_total items) (items_end_blank items) (items_owners n items)
+separated beyond front n (list kind items rest) have =
+    next beyond front (item_owners_after n items) (n + item_leaf_count items) rest (items_total items) (items_end_blank items) (items_owners n items)
     (last-append false front _ ∙ last-items _ n items have.0)
     (separated true (front ++ item_owners_after n items) (n + item_leaf_count items) rest have.1)
 

@@ -4,13 +4,14 @@ use Rattle.std.specs.Prelude.{not, Option, replicate}
 use Rattle.std.specs.Option.{option_map}
 use Rattle.cm_tree.specs.declared.tree.Block.{Block}
 use Rattle.cm_tree.specs.declared.tree.Block.TheFolds.{fold-Block, fold_out-Block}
-use Rattle.cm_tree.specs.declared.tree.Block.TheVariants.{Quote, List as ListBlock, outs-Paragraph, outs-Heading, outs-Code, outs-Html, outs-Break, outs-Definition, outs-Quote, outs-List}
+use Rattle.cm_tree.specs.declared.tree.Block.TheVariants.{List as ListBlock, outs-Paragraph, outs-Heading, outs-Code, outs-Html, outs-Break, outs-Definition, outs-List}
 use Rattle.cm_tree.specs.declared.tree.ListKind.{ListKind}
 use Rattle.cm_tree.specs.declared.tree.Owner.{Owner}
 use Rattle.cm_tree.specs.declared.tree.Owner.TheVariants.{Leaf, Marker, Blank}
 use Rattle.cm_scan.specs.blocks.Parts.{LeafPart, paragraph, heading, code, html, thematic_break, definition, Parts, none, blank, leaf, quote, list, ItemParts, last_item, item, leaf_block, is_loose, blocks_of_parts, blocks_of_items, leaf_count, item_leaf_count, marked, owners_after, item_owners_after, marked_first}
 use Rattle.cm_scan.specs.laws.Looseness.{line_total, items_total, HaveLines, ItemsHaveLines}
 use Rattle.cm_scan.specs.laws.PartLaws.{LeavesNamed, name_next, name_lines, leaves_named, total_of_all, leaves_step, leaves_in}
+use Rattle.cm_tree.proofs.lemmas.BlockFolds as block_fold
 
 pub length-replicate : {A : Type 0} (n : ℕ) (x : A) → length (replicate n x) ≡ n
 length-replicate zero x = refl
@@ -171,9 +172,6 @@ leaf-one (html text) = simp (fold_out-Block ℕ leaves_step, outs-Html)
 leaf-one thematic_break = simp (fold_out-Block ℕ leaves_step, outs-Break)
 leaf-one (definition label dest title) = simp (fold_out-Block ℕ leaves_step, outs-Definition)
 
-pub quote-leaves : (bs : List Block) → fold-Block ℕ leaves_step (Quote bs) ≡ leaves_in bs
-quote-leaves bs = simp (fold_out-Block ℕ leaves_step, outs-Quote)
-
 pub list-leaves : (kind : ListKind) (tight : Bool) (items : List (List Block))
     → fold-Block ℕ leaves_step (ListBlock kind tight items) ≡ total_of_all (map (map (fold-Block ℕ leaves_step)) items)
 list-leaves kind tight items = simp (fold_out-Block ℕ leaves_step, outs-List)
@@ -185,7 +183,7 @@ mutual
   tree-leaves none = refl
   tree-leaves (blank rest) = tree-leaves rest
   tree-leaves (leaf x lines rest) = omega (arith, leaf-one x, tree-leaves rest)
-  tree-leaves (quote inside rest) = omega (arith, quote-leaves (blocks_of_parts inside), tree-leaves inside, tree-leaves rest)
+  tree-leaves (quote inside rest) = omega (arith, block_fold.quote leaves_step (blocks_of_parts inside), tree-leaves inside, tree-leaves rest)
   tree-leaves (list kind items rest) = omega (arith, list-leaves kind (not (is_loose items)) (blocks_of_items items), items-leaves items, tree-leaves rest)
 
   items-leaves : (items : ItemParts) → total_of_all (map (map (fold-Block ℕ leaves_step)) (blocks_of_items items)) ≡ item_leaf_count items

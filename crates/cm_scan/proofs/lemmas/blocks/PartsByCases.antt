@@ -7,10 +7,10 @@ use Rattle.cm_scan.specs.blocks.Lines.{is_blank, content_of, marks, size}
 use Rattle.cm_scan.specs.blocks.LineForms.{Fence, ItemMarker}
 use Rattle.cm_scan.specs.blocks.HtmlBlocks.{HtmlKind}
 use Rattle.cm_scan.specs.blocks.Parts.{info_of, Parts, code, html, heading, thematic_break, blank, leaf, quote, put_item, put_leaves}
-use Rattle.cm_scan.specs.blocks.Starts.{Start, IndentedCode, QuoteMarker, AtxHeading, OpeningFence, HtmlStart, BreakLine, ItemStart, TextLine, start_of, Continuation, behind_quote_marker, continuation_in_quote, content_column, first_content, continuation_in_item}
+use Rattle.cm_scan.specs.blocks.Starts.{Start, IndentedCode, QuoteMarker, AtxHeading, OpeningFence, HtmlStart, BreakLine, ItemStart, TextLine, start_of, Continuation, after_quote_marker, continuation_in_quote, content_column, first_content, continuation_in_item}
 use Rattle.cm_scan.specs.blocks.Blocks.{text_run, leaves_of_run, fenced, html_lines, indented, code_line, Inside, inside, quote_parts, item_parts, fence_parts, html_parts, code_parts, text_parts, parts_by_start, parts_by_cases, parts_within, parts_of}
 use Rattle.cm_scan.specs.laws.PartLaws.{NoLines, FixedPoint, BlankCase, Begins, BreakCase, HeadingCase, FenceCase, HtmlCase, CodeCase, TextCase, next_inward, AllStay, no_more, one_stays, FirstLeaves, OneMoreStays, QuoteCase, ItemCase}
-use Rattle.cm_scan.proofs.lemmas.blocks.LineSizes.{marks-behind_quote_marker, marks-first_content, keeps-quote, keeps-item, size-text_run, size-fenced, size-html_lines, size-indented, size-following, size-inner, inside-agree}
+use Rattle.cm_scan.proofs.lemmas.blocks.LineSizes.{marks-after_quote_marker, marks-first_content, keeps-quote, keeps-item, size-text_run, size-fenced, size-html_lines, size-indented, size-following, size-inner, inside-agree}
 
 -- two functions that agree on all that is smaller agree by the cases
 module _ (rules : Rules) (f g : List LineView → Parts) (line : LineView) (lines : List LineView)
@@ -23,8 +23,8 @@ module _ (rules : Rules) (f g : List LineView → Parts) (line : LineView) (line
   unfolding quote_parts size
   agree-quote e =
       let continuation : Bool → LineView → _ = λ bare l. continuation_in_quote rules l in
-      let first = behind_quote_marker line in
-      let less : marks first.text < marks line.text = marks-behind_quote_marker line e in
+      let first = after_quote_marker line in
+      let less : marks first.text < marks line.text = marks-after_quote_marker line e in
       let same : inside rules f continuation (first ∷ []) lines ≡ inside rules g continuation (first ∷ []) lines
       = inside-agree rules f g continuation (size (first ∷ []) + size lines) (λ so_far lt. agree so_far (omega arith)) (λ bare l. keeps-quote rules l) (first ∷ []) lines (le_refl _) in
       let i = inside rules f continuation (first ∷ []) lines in

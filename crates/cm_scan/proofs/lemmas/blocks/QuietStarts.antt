@@ -1,9 +1,10 @@
 -- A first byte with which nothing but text starts.
 use Rattle.std.proofs.Common.{◌≡◌, ℕ, suc, ◌==◌, not, Bool, true, false, List, [], ◌∷◌, None, refl, ap, ◌∙◌, codes}
 use Rattle.std.specs.List.{list_any}
+use Rattle.std.specs.Char.{is_ascii_digit}
 use Rattle.cm_text.specs.Rules.{Rules}
-use Rattle.cm_scan.specs.Words.{is_digit, skip, front_of, run_length}
-use Rattle.cm_scan.specs.blocks.LineForms.{is_thematic_break, atx_heading, underline, opening_fence, fence_of, item_marker, bullet_marker, ordered_marker, marker_behind}
+use Rattle.cm_scan.specs.Words.{skip, front_of, run_length}
+use Rattle.cm_scan.specs.blocks.LineForms.{is_thematic_break, atx_heading, underline, opening_fence, fence_of, item_marker, bullet_marker, ordered_marker, marker_after}
 use Rattle.cm_scan.specs.blocks.HtmlBlocks.{html_start}
 use Rattle.cm_scan.specs.blocks.Starts.{TextLine, start_of_content}
 use Rattle.cm_scan.proofs.lemmas.texts.ToldApart.{differs}
@@ -39,14 +40,14 @@ pub no-bullet : (b : ℕ) (bs : List ℕ) → (b == 45) ≡ false → (b == 43) 
 unfolding bullet_marker
 no-bullet b bs e f g = rw (e, f, g) refl
 
-no-digits : (text : List ℕ) → marker_behind [] text ≡ None
-unfolding marker_behind
+no-digits : (text : List ℕ) → marker_after [] text ≡ None
+unfolding marker_after
 no-digits [] = refl
 no-digits (b ∷ bs) = refl
 
-pub no-number : (b : ℕ) (bs : List ℕ) → is_digit b ≡ false → ordered_marker (b ∷ bs) ≡ None
+pub no-number : (b : ℕ) (bs : List ℕ) → is_ascii_digit b ≡ false → ordered_marker (b ∷ bs) ≡ None
 unfolding ordered_marker front_of
-no-number b bs e = ap (λ v. marker_behind (elim v as (λ _. List ℕ) [ true ↦ b ∷ front_of is_digit bs | false ↦ [] ]) (skip is_digit (b ∷ bs))) e ∙ no-digits (skip is_digit (b ∷ bs))
+no-number b bs e = ap (λ v. marker_after (elim v as (λ _. List ℕ) [ true ↦ b ∷ front_of is_ascii_digit bs | false ↦ [] ]) (skip is_ascii_digit (b ∷ bs))) e ∙ no-digits (skip is_ascii_digit (b ∷ bs))
 
 pub no-break : (b : ℕ) (bs : List ℕ) → (b == 45) ≡ false → (b == 95) ≡ false → (b == 42) ≡ false → (b == 32) ≡ false → (b == 9) ≡ false → is_thematic_break (b ∷ bs) ≡ false
 unfolding is_thematic_break

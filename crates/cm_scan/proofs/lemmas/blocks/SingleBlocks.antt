@@ -12,10 +12,11 @@ use Rattle.cm_scan.specs.Words.{is_space_or_tab, is_blank_text, skip, trim_start
 use Rattle.cm_scan.specs.blocks.Lines.{is_blank, content_of, past, with_ending}
 use Rattle.cm_scan.specs.blocks.LineForms.{underline, Fence, ItemMarker, marker_width, is_same_kind}
 use Rattle.cm_scan.specs.blocks.HtmlBlocks.{HtmlKind, is_html_end}
-use Rattle.cm_scan.specs.blocks.Starts.{start_by, start_of_content, start_of, underline_if, underline_of, behind_quote_marker, behind_marker, content_offset, content_column, first_content}
+use Rattle.cm_scan.specs.blocks.Starts.{start_of_content, start_of, underline_of, after_quote_marker, after_marker, content_offset, content_column, first_content}
 use Rattle.cm_scan.specs.blocks.Parts.{Parts, list, ItemParts, item, next_items, put_before, put_item}
 use Rattle.cm_scan.specs.blocks.Blocks.{add_text, NextLine, GoesOn, Ends, Underlines, TextRun, text_run, Taken, taken, closes_fence, fenced, html_to_end, html_to_blank, html_lines}
 use Rattle.cm_scan.specs.laws.BlockLaws.{is_unindented, UnindentedLine, after_columns, QuoteAndSpace, QuoteAlone, ContentAt, ItemAndSpace, ItemAlone, no_more, one_goes_on, RunUpToItsEnd, RunUpToItsUnderline, none_closes, text_without, FencedUpToItsEnd, FencedToTheLast, none_ends, HtmlUpToItsEnd, first_is_blank, HtmlUpToABlankLine, KindOfItself, blank_lines, ItemBeforeItsList, ItemByItself}
+use Rattle.cm_scan.specs.steps.LineSteps.{start_by, underline_if}
 
 -- Lines at the margin
 
@@ -62,35 +63,35 @@ strip-space line text e = ap (λ t. strip_columns 1 (record line { text = t })) 
     strip-nothing (b ∷ bs) = refl
 
 pub quote_and_space : QuoteAndSpace
-unfolding behind_quote_marker past skip
+unfolding after_quote_marker past skip
 quote_and_space line text e =
-    ap (λ t. behind_quote_marker (record line { text = t })) e
+    ap (λ t. after_quote_marker (record line { text = t })) e
     ∙ strip-space (record { column = line.column + 0 + 1; text = 32 ∷ text; lazy = line.lazy }) text refl
     ∙ ap (λ n. record { column = n; text = text; lazy = line.lazy }) (let same : line.column + 0 + 1 + 1 ≡ line.column + 2 = omega arith in same)
 
 pub quote_alone : QuoteAlone
-unfolding behind_quote_marker past skip
+unfolding after_quote_marker past skip
 quote_alone line e =
-    ap (λ t. behind_quote_marker (record line { text = t })) e
+    ap (λ t. after_quote_marker (record line { text = t })) e
     ∙ ap (λ n. record { column = n; text = []; lazy = line.lazy }) (let same : line.column + 0 + 1 ≡ line.column + 1 = omega arith in same)
 
 -- what is after a marker at the margin
-behind-is : (marker : ItemMarker) (line : LineView) (text : List ℕ) → is_unindented line.text ≡ true → drop (marker_width marker) line.text ≡ text
-    → behind_marker marker line ≡ after_columns (marker_width marker) text line
+beyond-is : (marker : ItemMarker) (line : LineView) (text : List ℕ) → is_unindented line.text ≡ true → drop (marker_width marker) line.text ≡ text
+    → after_marker marker line ≡ after_columns (marker_width marker) text line
 unfolding past
-behind-is marker line text e h =
+beyond-is marker line text e h =
     ap (λ t. record { column = line.column + indent_of line + marker_width marker; text = drop (marker_width marker) t; lazy = line.lazy }) (trim-none line.text e)
     ∙ ap (λ t. record { column = line.column + indent_of line + marker_width marker; text = t; lazy = line.lazy }) h
     ∙ ap (λ n. record { column = n; text = text; lazy = line.lazy }) (let none : indent_of line ≡ 0 = no-columns line e in omega (arith, none))
 
-content-by : (marker : ItemMarker) (line behind first : LineView) → is_unindented line.text ≡ true → behind_marker marker line ≡ behind → content_offset behind ≡ 1
-    → strip_columns 1 behind ≡ first → ContentAt marker line first
+content-by : (marker : ItemMarker) (line beyond first : LineView) → is_unindented line.text ≡ true → after_marker marker line ≡ beyond → content_offset beyond ≡ 1
+    → strip_columns 1 beyond ≡ first → ContentAt marker line first
 unfolding content_column first_content
-content-by marker line behind first e is offset stripped = (
+content-by marker line beyond first e is offset stripped = (
   let none : indent_of line ≡ 0 = no-columns line e in
-      let one : content_offset (behind_marker marker line) ≡ 1 = ap content_offset is ∙ offset in
+      let one : content_offset (after_marker marker line) ≡ 1 = ap content_offset is ∙ offset in
       omega (arith, none, one),
-  ap (λ l. strip_columns (content_offset l) l) is ∙ ap (λ n. strip_columns n behind) offset ∙ stripped,
+  ap (λ l. strip_columns (content_offset l) l) is ∙ ap (λ n. strip_columns n beyond) offset ∙ stripped,
 )
 
 -- a space before something else is one column
@@ -120,11 +121,11 @@ unindented-front (b ∷ bs) text e = e
 pub item_and_space : ItemAndSpace
 item_and_space marker line mark text e width bare h =
     let unindented : is_unindented line.text ≡ true = ap is_unindented e ∙ unindented-front mark (32 ∷ text) bare in
-    let behind = after_columns (marker_width marker) (32 ∷ text) line in
-    content-by marker line behind (after_columns (suc (marker_width marker)) text line) unindented
-    (behind-is marker line (32 ∷ text) unindented (ap (drop (marker_width marker)) e ∙ drop-front mark (32 ∷ text) (marker_width marker) width))
-    (offset-of-one behind text refl h)
-    (strip-space behind text refl ∙ ap (λ n. record { column = n; text = text; lazy = line.lazy }) (omega arith))
+    let beyond = after_columns (marker_width marker) (32 ∷ text) line in
+    content-by marker line beyond (after_columns (suc (marker_width marker)) text line) unindented
+    (beyond-is marker line (32 ∷ text) unindented (ap (drop (marker_width marker)) e ∙ drop-front mark (32 ∷ text) (marker_width marker) width))
+    (offset-of-one beyond text refl h)
+    (strip-space beyond text refl ∙ ap (λ n. record { column = n; text = text; lazy = line.lazy }) (omega arith))
 
 drop-all : (text : List ℕ) (n : ℕ) → length text ≡ n → drop n text ≡ []
 drop-all text n e = ap (drop n) (sym (append-nil text)) ∙ drop-front text [] n e
@@ -133,7 +134,7 @@ pub item_alone : ItemAlone
 unfolding content_offset
 item_alone marker line width unindented =
     content-by marker line (after_columns (marker_width marker) [] line) (after_columns (marker_width marker) [] line) unindented
-    (behind-is marker line [] unindented (drop-all line.text (marker_width marker) width)) refl refl
+    (beyond-is marker line [] unindented (drop-all line.text (marker_width marker) width)) refl refl
 
 -- Runs of text
 
@@ -249,16 +250,16 @@ kind_of_itself Star = refl
 kind_of_itself (Dot n) = refl
 kind_of_itself (Paren n) = refl
 
-next-behind : (kind other : ListKind) (n m : ℕ) (rest : Parts) (items : ItemParts) → is_same_kind kind other ≡ true
+next-beyond : (kind other : ListKind) (n m : ℕ) (rest : Parts) (items : ItemParts) → is_same_kind kind other ≡ true
     → next_items kind m (blank_lines n (list other items rest)) ≡ Some (m + n, items, rest)
 unfolding next_items
-next-behind kind other zero m rest items e = ap (λ v. given v (m, items, rest)) e ∙ ap (λ k. Some (k, items, rest)) (let same : m ≡ m + 0 = omega arith in same)
-next-behind kind other (suc n) m rest items e = next-behind kind other n (suc m) rest items e ∙ ap (λ k. Some (k, items, rest)) (let same : suc m + n ≡ m + suc n = omega arith in same)
+next-beyond kind other zero m rest items e = ap (λ v. given v (m, items, rest)) e ∙ ap (λ k. Some (k, items, rest)) (let same : m ≡ m + 0 = omega arith in same)
+next-beyond kind other (suc n) m rest items e = next-beyond kind other n (suc m) rest items e ∙ ap (λ k. Some (k, items, rest)) (let same : suc m + n ≡ m + suc n = omega arith in same)
 
 pub item_before_its_list : ItemBeforeItsList
 unfolding put_item
 item_before_its_list kind other n inside rest items e =
-    ap (put_before kind inside (blank_lines n (list other items rest))) (next-behind kind other n 0 rest items e)
+    ap (put_before kind inside (blank_lines n (list other items rest))) (next-beyond kind other n 0 rest items e)
     ∙ ap (λ k. list kind (item inside k items) rest) (let same : 0 + n ≡ n = omega arith in same)
 
 pub item_by_itself : ItemByItself

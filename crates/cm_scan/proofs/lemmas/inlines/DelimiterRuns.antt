@@ -77,14 +77,14 @@ runs-go-on rules defined before b taken rest items left =
     (ap (λ n. runs_after rules defined n (b ∷ before) (taken ++ rest) step.items) count ∙ passed-over rules defined (b ∷ before) taken rest step.items)
 
 -- text without markup holds no run
-pub runs-behind-text : (rules : Rules) (defined : Defined) (before text rest : List ℕ) (items : List Item) → list_all is_plain_byte text ≡ true → keeps_spaces rest text ≡ true
+pub runs-beyond-text : (rules : Rules) (defined : Defined) (before text rest : List ℕ) (items : List Item) → list_all is_plain_byte text ≡ true → keeps_spaces rest text ≡ true
     → runs_after rules defined zero before (text ++ rest) items ≡ runs_after rules defined zero (reverse text ++ before) rest (reverse (one_by_one text) ++ items)
 unfolding runs_after item_step add_atom
-runs-behind-text rules defined before [] rest items plain parts = refl
-runs-behind-text rules defined before (b ∷ bs) rest items plain parts =
+runs-beyond-text rules defined before [] rest items plain parts = refl
+runs-beyond-text rules defined before (b ∷ bs) rest items plain parts =
     ap (λ (a : AtomRead). run_in a.atom ++ by (add_atom rules defined items a.atom a.rest)) (plain-atom rules before b bs rest plain parts)
     ∙ ap (λ n. runs_after rules defined n (b ∷ before) (bs ++ rest) (Characters (b ∷ []) ∷ items)) nothing
-    ∙ runs-behind-text rules defined (b ∷ before) bs rest (Characters (b ∷ []) ∷ items) (and_parts (is_plain_byte b) (list_all is_plain_byte bs) plain).1 (further-keeps b bs rest parts)
+    ∙ runs-beyond-text rules defined (b ∷ before) bs rest (Characters (b ∷ []) ∷ items) (and_parts (is_plain_byte b) (list_all is_plain_byte bs) plain).1 (further-keeps b bs rest parts)
     ∙ ap (λ passed. runs_after rules defined zero passed rest (reverse (one_by_one bs) ++ Characters (b ∷ []) ∷ items)) (sym (append_assoc (reverse bs) (b ∷ []) before) ∙ ap (λ t. t ++ before) (sym (reverse-append (b ∷ []) bs)))
     ∙ ap (runs_after rules defined zero (reverse (b ∷ bs) ++ before) rest) (sym (append_assoc (reverse (one_by_one bs)) (Characters (b ∷ []) ∷ []) items)
     ∙ ap (λ all. all ++ items) (sym (reverse-append (Characters (b ∷ []) ∷ []) (one_by_one bs))))

@@ -3,22 +3,25 @@ use Rattle.std.proofs.Common.{◌≡◌, ℕ, zero, suc, ◌+◌, Bool, true, fa
 use Rattle.std.proofs.lemmas.List.Sums.{sum_by-cons}
 use Rattle.std.specs.Prelude.{nat_le, replicate, encode_utf8_all, if◌then◌else◌}
 use Rattle.std.specs.Str.Parse.{digits_value}
+use Rattle.std.specs.Int.{is_in_range}
+use Rattle.std.specs.Char.{is_ascii_control}
 use Rattle.std.proofs.lemmas.Bool.Decides.{nat_tests}
+use Rattle.std.specs.Option.{option_map}
 use Rattle.cm_text.specs.Rules.{Rules}
 use Rattle.cm_text.specs.Addresses.{is_followed}
-use Rattle.cm_text.specs.Characters.{is_ascii_punct, within}
+use Rattle.cm_text.specs.Characters.{is_ascii_punct}
 use Rattle.cm_text.specs.NamedReferences.{names}
 use Rattle.cm_text.specs.References.{numbered, numbered_character, entry, named, between, decimal_reference, hexadecimal_reference, entity_reference, first_of_all, reference}
 use Rattle.cm_text.specs.Unescaping.{escape, unescape}
 use Rattle.cm_tree.specs.Definitions.{Target}
 use Rattle.cm_tree.specs.declared.tree.Inline.TheVariants.{Code, Html, Soft, Hard}
-use Rattle.cm_scan.specs.Words.{is_control, run_length, after_run, skip, front_of, after_word, given}
+use Rattle.cm_scan.specs.Words.{run_length, after_run, skip, front_of, after_word, given, ◌<|>◌, ◌and_then◌}
 use Rattle.cm_scan.specs.spans.Tags.{is_blank_next, after_gap}
-use Rattle.cm_scan.specs.inlines.Links.{Reading, behind, keep_if, escapes_next, up_to_closing, opened_by, bare_run, is_label, label, is_filled, destination, has_no_blank_line, title_in, title}
-use Rattle.cm_scan.specs.spans.CodeSpans.{up_to_run, span_content, spanned, code_span}
-use Rattle.cm_scan.specs.spans.Autolinks.{Autolink, is_inside, ended, in_angles, is_absolute, is_address, as_autolink, autolink, link_if_followed, followed_autolink}
+use Rattle.cm_scan.specs.inlines.Links.{Reading, beyond, keep_if, escapes_next, up_to_closing, opened_by, bare_run, is_label, label, is_filled, destination, has_no_blank_line, title_in, title}
+use Rattle.cm_scan.specs.spans.CodeSpans.{up_to_run, code_span, span_content}
+use Rattle.cm_scan.specs.spans.Autolinks.{Autolink, is_inside, in_angles, is_absolute, is_address, as_autolink, autolink, followed_autolink}
 use Rattle.cm_scan.specs.spans.RawHtml.{raw_html}
-use Rattle.cm_scan.specs.spans.Angles.{Angled, Addressed, Tagged, tagged, at_angle}
+use Rattle.cm_scan.specs.spans.Angles.{Angled, Addressed, Tagged, at_angle}
 use Rattle.cm_scan.specs.inlines.Delimiters.{Run}
 use Rattle.cm_scan.specs.inlines.Atoms.{Atom, AtomRead, Plain, Whole, Delimiter, OpenBracket, CloseBracket, read, link_of, backtick_atom, angle_atom, backslash_atom, reference_atom, break_atom, run_between, run_atom, tilde_atom, bang_atom, is_markup, markup_atom, byte_atom, or_byte, atom_at}
 use Rattle.cm_scan.specs.inlines.Pairing.{Item}
@@ -26,8 +29,9 @@ use Rattle.cm_scan.specs.inlines.Brackets.{LinkEnd, Defined, closed, after_desti
 use Rattle.cm_scan.specs.inlines.Inlines.{add_atom, item_step}
 use Rattle.cm_scan.specs.laws.InlineLaws.{StepLeavesAnEnd}
 use Rattle.cm_scan.specs.inlines.DelimiterRuns.{run_in, characters_of}
+use Rattle.cm_scan.specs.steps.SpanSteps.{link_if_followed, ended, tagged, spanned}
 use Rattle.cm_scan.proofs.lemmas.texts.WordsGoOn.{none-some}
-use Rattle.cm_scan.proofs.lemmas.texts.EndsOfTexts.{IsEnd, whole-end, same-left, behind-byte, end-of-end, end-behind-one, drop-end, word-end, skip-end, run-end, gap-end}
+use Rattle.cm_scan.proofs.lemmas.texts.EndsOfTexts.{IsEnd, whole-end, same-left, beyond-byte, end-of-end, end-beyond-one, drop-end, word-end, skip-end, run-end, gap-end}
 use Rattle.cm_scan.proofs.lemmas.spans.RawHtmlEnds.{raw_html-ends}
 
 -- what was read, where something was
@@ -36,9 +40,9 @@ some-is {A} {a} e = ap (λ (o : Option A). elim o as (λ _. A) [ None ↦ a | So
 
 -- Readings
 
-behind-end : (b : ℕ) (bs : List ℕ) (o : Option Reading) (r : Reading) → behind b o ≡ Some r → ((s : Reading) → o ≡ Some s → IsEnd s.rest bs) → IsEnd r.rest (b ∷ bs)
-behind-end b bs None r e k = none-some e
-behind-end b bs (Some s) r e k = same-left s.rest r.rest (ap (λ (t : Reading). t.rest) (some-is e)) (behind-byte b bs (k s refl))
+beyond-end : (b : ℕ) (bs : List ℕ) (o : Option Reading) (r : Reading) → beyond b o ≡ Some r → ((s : Reading) → o ≡ Some s → IsEnd s.rest bs) → IsEnd r.rest (b ∷ bs)
+beyond-end b bs None r e k = none-some e
+beyond-end b bs (Some s) r e k = same-left s.rest r.rest (ap (λ (t : Reading). t.rest) (some-is e)) (beyond-byte b bs (k s refl))
 
 given-is : {A : Type 0} (test : Bool) (a b : A) → given test a ≡ Some b → a ≡ b
 given-is true a b e = some-is e
@@ -51,36 +55,36 @@ kept-is test (Some s) r e = ap (λ (t : Reading). Some t) (given-is (test s) s r
 closed_by-end : (closes forbidden : ℕ → Bool) (escaped : Bool) (text : List ℕ) (r : Reading) → up_to_closing closes forbidden escaped text ≡ Some r → IsEnd r.rest text
 unfolding up_to_closing
 closed_by-end closes forbidden escaped [] r e = none-some e
-closed_by-end closes forbidden true (b ∷ bs) r e = behind-end b bs (up_to_closing closes forbidden false bs) r e (λ s h. closed_by-end closes forbidden false bs s h)
+closed_by-end closes forbidden true (b ∷ bs) r e = beyond-end b bs (up_to_closing closes forbidden false bs) r e (λ s h. closed_by-end closes forbidden false bs s h)
 closed_by-end closes forbidden false (b ∷ bs) r e =
     go (closes b) (forbidden b) e (λ s h. closed_by-end closes forbidden (escapes_next b bs) bs s h)
   where
     inside : Option Reading
     inside = up_to_closing closes forbidden (escapes_next b bs) bs
 
-    go : (last barred : Bool) → elim last as (λ _. Option Reading) [ true ↦ Some (record { text = []; rest = bs }) | false ↦ elim barred as (λ _. Option Reading) [ true ↦ None | false ↦ behind b inside ] ] ≡ Some r
+    go : (last barred : Bool) → elim last as (λ _. Option Reading) [ true ↦ Some (record { text = []; rest = bs }) | false ↦ elim barred as (λ _. Option Reading) [ true ↦ None | false ↦ beyond b inside ] ] ≡ Some r
         → ((s : Reading) → inside ≡ Some s → IsEnd s.rest bs) → IsEnd r.rest (b ∷ bs)
-    go true barred e k = same-left bs r.rest (ap (λ (t : Reading). t.rest) (some-is e)) (behind-byte b bs (whole-end bs))
+    go true barred e k = same-left bs r.rest (ap (λ (t : Reading). t.rest) (some-is e)) (beyond-byte b bs (whole-end bs))
     go false true e k = none-some e
-    go false false e k = behind-end b bs inside r e k
+    go false false e k = beyond-end b bs inside r e k
 
 bare-end : (opened : ℕ) (escaped : Bool) (text : List ℕ) (r : Reading) → bare_run opened escaped text ≡ Some r → IsEnd r.rest text
 unfolding bare_run
 bare-end opened escaped [] r e = same-left [] r.rest (ap (λ (t : Reading). t.rest) (given-is (opened == 0) _ r e)) (whole-end [])
-bare-end opened true (b ∷ bs) r e = behind-end b bs (bare_run opened false bs) r e (λ s h. bare-end opened false bs s h)
+bare-end opened true (b ∷ bs) r e = beyond-end b bs (bare_run opened false bs) r e (λ s h. bare-end opened false bs s h)
 bare-end opened false (b ∷ bs) r e =
-    go (b == 32 || is_control b || (b == 41 && opened == 0)) (b == 40 && opened == 32) e (λ s h. bare-end (opened_by opened b) (escapes_next b bs) bs s h)
+    go (b == 32 || is_ascii_control b || (b == 41 && opened == 0)) (b == 40 && opened == 32) e (λ s h. bare-end (opened_by opened b) (escapes_next b bs) bs s h)
   where
     inside : Option Reading
     inside = bare_run (opened_by opened b) (escapes_next b bs) bs
 
     go : (last deep : Bool) → elim last as (λ _. Option Reading) [
       | true ↦ given (opened == 0) (record { text = []; rest = b ∷ bs })
-      | false ↦ elim deep as (λ _. Option Reading) [ true ↦ None | false ↦ behind b inside ]
+      | false ↦ elim deep as (λ _. Option Reading) [ true ↦ None | false ↦ beyond b inside ]
     ] ≡ Some r → ((s : Reading) → inside ≡ Some s → IsEnd s.rest bs) → IsEnd r.rest (b ∷ bs)
     go true deep e k = same-left (b ∷ bs) r.rest (ap (λ (t : Reading). t.rest) (given-is (opened == 0) _ r e)) (whole-end (b ∷ bs))
     go false true e k = none-some e
-    go false false e k = behind-end b bs inside r e k
+    go false false e k = beyond-end b bs inside r e k
 
 label-end : (text : List ℕ) (r : Reading) → label text ≡ Some r → IsEnd r.rest text
 unfolding label
@@ -91,7 +95,7 @@ label-end (b ∷ bs) r e = go (b == 91) e
     inside = up_to_closing (λ c. c == 93) (λ c. c == 91) false bs
 
     go : (next : Bool) → elim next as (λ _. Option Reading) [ true ↦ keep_if is_label inside | false ↦ None ] ≡ Some r → IsEnd r.rest (b ∷ bs)
-    go true e = behind-byte b bs (closed_by-end (λ c. c == 93) (λ c. c == 91) false bs r (kept-is is_label inside r e))
+    go true e = beyond-byte b bs (closed_by-end (λ c. c == 93) (λ c. c == 91) false bs r (kept-is is_label inside r e))
     go false e = none-some e
 
 destination-end : (text : List ℕ) (r : Reading) → destination text ≡ Some r → IsEnd r.rest text
@@ -106,13 +110,13 @@ destination-end (b ∷ bs) r e = go (b == 60) e
     bare = bare_run 0 false (b ∷ bs)
 
     go : (next : Bool) → elim next as (λ _. Option Reading) [ true ↦ angled | false ↦ keep_if is_filled bare ] ≡ Some r → IsEnd r.rest (b ∷ bs)
-    go true e = behind-byte b bs (closed_by-end (λ c. c == 62) (λ c. c == 60 || c == 10) false bs r e)
+    go true e = beyond-byte b bs (closed_by-end (λ c. c == 62) (λ c. c == 60 || c == 10) false bs r e)
     go false e = bare-end 0 false (b ∷ bs) r (kept-is is_filled bare r e)
 
 title-end : (text : List ℕ) (r : Reading) → title text ≡ Some r → IsEnd r.rest text
 unfolding title title_in
 title-end [] r e = none-some e
-title-end (b ∷ bs) r e = behind-byte b bs (go (b == 34) (b == 39) (b == 40) (kept-is has_no_blank_line (title_in b bs) r e))
+title-end (b ∷ bs) r e = beyond-byte b bs (go (b == 34) (b == 39) (b == 40) (kept-is has_no_blank_line (title_in b bs) r e))
   where
     go : (double single parenthesis : Bool) → (if double then up_to_closing (λ c. c == 34) (λ c. false) false bs
         else (if single then up_to_closing (λ c. c == 39) (λ c. false) false bs
@@ -128,7 +132,7 @@ closed-end : (dest title text : List ℕ) (end : LinkEnd) → closed dest title 
 closed-end dest title text end e = go (after_word (codes ")") (after_gap text)) refl e
   where
     go : (o : Option (List ℕ)) → after_word (codes ")") (after_gap text) ≡ o
-        → elim o as (λ _. Option LinkEnd) [ Some rest ↦ Some (record { dest = unescape dest; title = unescape title; rest = rest }) | None ↦ None ] ≡ Some end → IsEnd end.rest text
+        → option_map (link_end (unescape dest, unescape title)) o ≡ Some end → IsEnd end.rest text
     go None f e = none-some e
     go (Some rest) f e = end-of-end (gap-end text) (same-left rest end.rest (ap (λ (t : LinkEnd). t.rest) (some-is e)) (word-end (codes ")") (after_gap text) rest f))
 
@@ -152,7 +156,7 @@ inline_end-end text end e = go (after_word (codes "(") text) refl e
     in_parentheses inside o = elim o as (λ _. Option LinkEnd) [ Some d ↦ after_destination d.text d.rest | None ↦ closed [] [] inside ]
 
     go : (o : Option (List ℕ)) → after_word (codes "(") text ≡ o
-        → elim o as (λ _. Option LinkEnd) [ Some inside ↦ in_parentheses inside (destination (after_gap inside)) | None ↦ None ] ≡ Some end → IsEnd end.rest text
+        → (o and_then λ inside. in_parentheses inside (destination (after_gap inside))) ≡ Some end → IsEnd end.rest text
     go None f e = none-some e
     go (Some inside) f e = end-of-end (word-end (codes "(") text inside f) (by (destination (after_gap inside)) refl e)
       where
@@ -195,12 +199,12 @@ end_at-end rules defined source text end e = go (end_if_followed rules (inline_e
     followed None found f = none-some f
     followed (Some other) found f = by (is_followed rules other.dest) f
       where
-        by : (t : Bool) → elim t as (λ _. Option LinkEnd) [ true ↦ Some other | false ↦ None ] ≡ Some found → Some other ≡ Some found
+        by : (t : Bool) → given t other ≡ Some found → Some other ≡ Some found
         by true f = f
         by false f = none-some f
 
     go : (o : Option LinkEnd) → end_if_followed rules (inline_end text) ≡ o
-        → elim o as (λ _. Option LinkEnd) [ Some end ↦ Some end | None ↦ end_if_followed rules (reference_end defined source text) ] ≡ Some end → IsEnd end.rest text
+        → (o <|> end_if_followed rules (reference_end defined source text)) ≡ Some end → IsEnd end.rest text
     go (Some found) f e = same-left found.rest end.rest (ap (λ (t : LinkEnd). t.rest) (some-is e)) (inline_end-end text found (followed (inline_end text) found f))
     go None f e = reference_end-end defined source text end (followed (reference_end defined source text) end e)
 
@@ -233,18 +237,18 @@ bracket-end rules defined items rest = go (last_opener items [])
 -- Atoms: what they leave is an end of the source after its first byte
 
 -- a word of a byte or more
-word-behind : (w : ℕ) (ws : List ℕ) (b : ℕ) (bs rest : List ℕ) → after_word (w ∷ ws) (b ∷ bs) ≡ Some rest → IsEnd rest bs
+word-beyond : (w : ℕ) (ws : List ℕ) (b : ℕ) (bs rest : List ℕ) → after_word (w ∷ ws) (b ∷ bs) ≡ Some rest → IsEnd rest bs
 unfolding after_word
-word-behind w ws b bs rest e = go (b == w) e
+word-beyond w ws b bs rest e = go (b == w) e
   where
     go : (c : Bool) → elim c as (λ _. Option (List ℕ)) [ true ↦ after_word ws bs | false ↦ None ] ≡ Some rest → IsEnd rest bs
     go true e = word-end ws bs rest e
     go false e = none-some e
 
 -- a run of the first byte
-run-behind : (marker b : ℕ) (bs : List ℕ) → (b == marker) ≡ true → IsEnd (after_run marker (b ∷ bs)) bs
+run-beyond : (marker b : ℕ) (bs : List ℕ) → (b == marker) ≡ true → IsEnd (after_run marker (b ∷ bs)) bs
 unfolding after_run
-run-behind marker b bs e = go (b == marker) e
+run-beyond marker b bs e = go (b == marker) e
   where
     go : (c : Bool) → c ≡ true → IsEnd (elim c as (λ _. List ℕ) [ true ↦ after_run marker bs | false ↦ b ∷ bs ]) bs
     go true e = run-end marker bs
@@ -258,10 +262,10 @@ up_to-end n in_run (b ∷ bs) r e = go (b == 96 && not in_run && run_length 96 (
     inside : Option Reading
     inside = up_to_run n (b == 96) bs
 
-    go : (c : Bool) → elim c as (λ _. Option Reading) [ true ↦ Some (record { text = []; rest = after_run 96 (b ∷ bs) }) | false ↦ behind b inside ] ≡ Some r
+    go : (c : Bool) → elim c as (λ _. Option Reading) [ true ↦ Some (record { text = []; rest = after_run 96 (b ∷ bs) }) | false ↦ beyond b inside ] ≡ Some r
         → ((s : Reading) → inside ≡ Some s → IsEnd s.rest bs) → IsEnd r.rest (b ∷ bs)
     go true e k = same-left (after_run 96 (b ∷ bs)) r.rest (ap (λ (t : Reading). t.rest) (some-is e)) (run-end 96 (b ∷ bs))
-    go false e k = behind-end b bs inside r e k
+    go false e k = beyond-end b bs inside r e k
 
 spanned-end : (n : ℕ) (text : List ℕ) (r : Reading) → spanned n text ≡ Some r → IsEnd r.rest text
 spanned-end zero text r e = none-some e
@@ -302,12 +306,12 @@ backtick-leaves b bs h = go (spanned (run_length 96 (b ∷ bs)) (after_run 96 (b
       | Some span ↦ read (Whole (Code span.text)) span.rest
       | None ↦ read (Plain (replicate (run_length 96 (b ∷ bs)) 96)) (after_run 96 (b ∷ bs))
     ]) bs
-    go (Some span) f = leaves _ bs refl (end-of-end (run-behind 96 b bs h) (spanned-end (run_length 96 (b ∷ bs)) (after_run 96 (b ∷ bs)) span f))
-    go None f = leaves _ bs refl (run-behind 96 b bs h)
+    go (Some span) f = leaves _ bs refl (end-of-end (run-beyond 96 b bs h) (spanned-end (run_length 96 (b ∷ bs)) (after_run 96 (b ∷ bs)) span f))
+    go None f = leaves _ bs refl (run-beyond 96 b bs h)
 
-link-behind : (b : ℕ) (bs : List ℕ) (link : Autolink) → autolink (b ∷ bs) ≡ Some link → IsEnd link.rest bs
+link-beyond : (b : ℕ) (bs : List ℕ) (link : Autolink) → autolink (b ∷ bs) ≡ Some link → IsEnd link.rest bs
 unfolding autolink in_angles as_autolink
-link-behind b bs link e = go (after_word (codes "<") (b ∷ bs)) refl e
+link-beyond b bs link e = go (after_word (codes "<") (b ∷ bs)) refl e
   where
     link_at : Option Reading → Option Autolink
     link_at o = elim o as (λ _. Option Autolink) [ Some r ↦ as_autolink r | None ↦ None ]
@@ -327,9 +331,9 @@ link-behind b bs link e = go (after_word (codes "<") (b ∷ bs)) refl e
         end-of-end (skip-end is_inside inside) (same-left rest link.rest (made-end (record { text = front_of is_inside inside; rest = rest }) e) (word-end (codes ">") (skip is_inside inside) rest f))
 
     go : (o : Option (List ℕ)) → after_word (codes "<") (b ∷ bs) ≡ o
-        → link_at (elim o as (λ _. Option Reading) [ Some inside ↦ ended (front_of is_inside inside) (after_word (codes ">") (skip is_inside inside)) | None ↦ None ]) ≡ Some link → IsEnd link.rest bs
+        → link_at (o and_then λ inside. ended (front_of is_inside inside) (after_word (codes ">") (skip is_inside inside))) ≡ Some link → IsEnd link.rest bs
     go None f e = none-some e
-    go (Some inside) f e = end-of-end (word-behind 60 [] b bs inside f) (inside-end inside (after_word (codes ">") (skip is_inside inside)) refl e)
+    go (Some inside) f e = end-of-end (word-beyond 60 [] b bs inside f) (inside-end inside (after_word (codes ">") (skip is_inside inside)) refl e)
 
 angle-leaves : (rules : Rules) (b : ℕ) (bs : List ℕ) → Leaves (angle_atom rules (b ∷ bs)) bs
 unfolding angle_atom at_angle followed_autolink
@@ -343,7 +347,7 @@ angle-leaves rules b bs = go (autolink (b ∷ bs)) (raw_html rules (b ∷ bs)) r
     ]
 
     tag : (html : Option (List ℕ)) → raw_html rules (b ∷ bs) ≡ html → Leaves (atom_of (tagged (b ∷ bs) html)) bs
-    tag (Some rest) g = leaves _ bs refl (end-behind-one 62 b rest bs (raw_html-ends rules (b ∷ bs) rest g))
+    tag (Some rest) g = leaves _ bs refl (end-beyond-one 62 b rest bs (raw_html-ends rules (b ∷ bs) rest g))
     tag None g = leaves-none bs
 
     go : (link : Option Autolink) (html : Option (List ℕ)) → autolink (b ∷ bs) ≡ link → raw_html rules (b ∷ bs) ≡ html
@@ -351,11 +355,11 @@ angle-leaves rules b bs = go (autolink (b ∷ bs)) (raw_html rules (b ∷ bs)) r
     go None html f g = tag html g
     go (Some link) html f g = by (is_followed rules link.destination)
       where
-        by : (t : Bool) → Leaves (atom_of (elim (elim t as (λ _. Option Autolink) [ true ↦ Some link | false ↦ None ]) as (λ _. Option Angled) [
+        by : (t : Bool) → Leaves (atom_of (elim (given t link) as (λ _. Option Angled) [
           | Some link ↦ Some (Addressed link)
           | None ↦ tagged (b ∷ bs) html
         ])) bs
-        by true = leaves _ bs refl (link-behind b bs link f)
+        by true = leaves _ bs refl (link-beyond b bs link f)
         by false = tag html g
 
 escape-two : (text : List ℕ) (escaped : List ℕ × ℕ) → escape text ≡ Some escaped → escaped.1 ≡ 2
@@ -379,7 +383,7 @@ backslash-leaves b bs = go (after_word (codes "\\\n") (b ∷ bs)) (escape (b ∷
       | Some rest ↦ read (Whole Hard) rest
       | None ↦ elim p as (λ _. Option AtomRead) [ Some escaped ↦ read (Plain escaped.0) (drop escaped.1 (b ∷ bs)) | None ↦ None ]
     ]) bs
-    go (Some rest) p f g = leaves _ bs refl (word-behind 92 (10 ∷ []) b bs rest f)
+    go (Some rest) p f g = leaves _ bs refl (word-beyond 92 (10 ∷ []) b bs rest f)
     go None (Some escaped) f g = leaves _ bs refl (dropped escaped.1 1 b bs (escape-two (b ∷ bs) escaped g))
     go None None f g = leaves-none bs
 
@@ -392,7 +396,7 @@ none-one found e = none-some e
 
 numbered-one : (radix most round : ℕ) (o : Option (List ℕ)) → HasOne (numbered radix most (suc round) o)
 numbered-one radix most round None found e = none-some e
-numbered-one radix most round (Some digits) found e = go (within 1 most (length digits)) e
+numbered-one radix most round (Some digits) found e = go (is_in_range 1 most (length digits)) e
   where
     go : (v : Bool) → (if v then Some (numbered_character (digits_value radix digits) ∷ [], suc round + length digits) else None) ≡ Some found → (m : ℕ) × (found.1 ≡ suc m)
     go true e = (round + length digits, (let same : suc round + length digits ≡ found.1 = ap (λ (p : List ℕ × ℕ). p.1) (some-is e) in omega (arith, same)))
@@ -440,7 +444,7 @@ break-leaves b bs = go (b == 32) refl
 
     go : (space : Bool) → (b == 32) ≡ space → Leaves (broken (b ∷ bs) (after_word (codes "\n") (elim space as (λ _. List ℕ) [ true ↦ after_run 32 bs | false ↦ b ∷ bs ]))) bs
     go true e = ended-at (after_word (codes "\n") (after_run 32 bs)) (λ rest f. end-of-end (run-end 32 bs) (word-end (codes "\n") (after_run 32 bs) rest f))
-    go false e = ended-at (after_word (codes "\n") (b ∷ bs)) (λ rest f. word-behind 10 [] b bs rest f)
+    go false e = ended-at (after_word (codes "\n") (b ∷ bs)) (λ rest f. word-beyond 10 [] b bs rest f)
 
 run-size : (marker : ℕ) (text : List ℕ) → run_length marker text + length (after_run marker text) ≡ length text
 unfolding run_length after_run
@@ -472,7 +476,7 @@ run-leaves rules before character b bs h found e = subst (λ t. Left t bs) (some
 
     run-left : Left (record { atom = Delimiter run; rest = after_run character (b ∷ bs) }) bs
     run-left = record {
-      end = run-behind character b bs h;
+      end = run-beyond character b bs h;
       some = (let some : 1 ≤ run_length character (b ∷ bs) = run-some character b bs h in omega (arith, some, one));
       few = (let size : run_length character (b ∷ bs) + length (after_run character (b ∷ bs)) ≡ suc (length bs) = run-size character (b ∷ bs) in omega (arith, size, one));
     }
@@ -486,14 +490,14 @@ tilde-leaves rules before b bs h = go (rules.strike && run_length 126 (b ∷ bs)
       | false ↦ read (Plain (replicate (run_length 126 (b ∷ bs)) 126)) (after_run 126 (b ∷ bs))
     ]) bs
     go true = run-leaves rules before 126 b bs h
-    go false = leaves _ bs refl (run-behind 126 b bs h)
+    go false = leaves _ bs refl (run-beyond 126 b bs h)
 
 bang-leaves : (b : ℕ) (bs : List ℕ) → Leaves (bang_atom (b ∷ bs)) bs
 unfolding bang_atom
 bang-leaves b bs = go (after_word (codes "![") (b ∷ bs)) refl
   where
     go : (o : Option (List ℕ)) → after_word (codes "![") (b ∷ bs) ≡ o → Leaves (elim o as (λ _. Option AtomRead) [ Some rest ↦ read (OpenBracket true) rest | None ↦ None ]) bs
-    go (Some rest) f = leaves _ bs refl (word-behind 33 (91 ∷ []) b bs rest f)
+    go (Some rest) f = leaves _ bs refl (word-beyond 33 (91 ∷ []) b bs rest f)
     go None f = leaves-none bs
 
 itself : (b : ℕ) → (b == b) ≡ true

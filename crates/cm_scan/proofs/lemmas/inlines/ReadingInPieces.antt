@@ -89,12 +89,12 @@ same-texts : (found : OpenerFound) → back (brackets_are_text (opener_in_pieces
 unfolding opener_in_pieces
 same-texts found =
     let opener = Characters (bracket_text found.image) in
-    let behind : back (reverse (in_pieces found.inside) ++ opener ∷ back found.before) ≡ back (reverse found.inside ++ opener ∷ found.before) =
+    let after : back (reverse (in_pieces found.inside) ++ opener ∷ back found.before) ≡ back (reverse found.inside ++ opener ∷ found.before) =
     flat_map-append back_pieces (reverse (in_pieces found.inside)) (opener ∷ back found.before)
     ∙ ap (λ t. t ++ (back_pieces opener ++ back (back found.before))) (back-reversed (in_pieces found.inside) ∙ ap reverse (again found.inside) ∙ sym (back-reversed found.inside))
     ∙ ap (λ t. back (reverse found.inside) ++ (back_pieces opener ++ t)) (back-again found.before)
     ∙ sym (flat_map-append back_pieces (reverse found.inside) (opener ∷ found.before)) in
-    ap (λ t. back_pieces (Characters (93 ∷ [])) ++ t) behind
+    ap (λ t. back_pieces (Characters (93 ∷ [])) ++ t) after
 
 -- what two results have in common
 pub record Alike (one other : Bracketed) : Type 0 where

@@ -48,10 +48,10 @@ no-line-ending : (b : ℕ) → is_plain_byte b ≡ true → (b == 10) ≡ false
 no-line-ending b plain = grind (arith, nat_tests, plain)
 
 -- the text ends with a space before a byte, and after one
-behind-first : (b : ℕ) (bs rest : List ℕ) → is_empty bs ≡ false → keeps_spaces rest (b ∷ bs) ≡ keeps_spaces rest bs
+beyond-first : (b : ℕ) (bs rest : List ℕ) → is_empty bs ≡ false → keeps_spaces rest (b ∷ bs) ≡ keeps_spaces rest bs
 unfolding ends_with
-behind-first b [] rest e = absurd (cc e)
-behind-first b (c ∷ cs) rest e = refl
+beyond-first b [] rest e = absurd (cc e)
+beyond-first b (c ∷ cs) rest e = refl
 
 -- no line ending follows its spaces
 no-break : (text rest : List ℕ) → list_all is_plain_byte text ≡ true → is_empty text ≡ false → keeps_spaces rest text ≡ true → after_word (codes "\n") (after_run 32 (text ++ rest)) ≡ None
@@ -82,7 +82,7 @@ no-break (b ∷ bs) rest plain some parts =
     go : (is_empty bs ≡ false → keeps_spaces rest bs ≡ true → after_word (codes "\n") (after_run 32 (bs ++ rest)) ≡ None) → (space : Bool) → (b == 32) ≡ space → (empty : Bool) → is_empty bs ≡ empty
         → after_word (codes "\n") (elim space as (λ _. List ℕ) [ true ↦ after_run 32 (bs ++ rest) | false ↦ b ∷ (bs ++ rest) ]) ≡ None
     go again false p empty e = other (b == 10) (no-line-ending b (and_parts (is_plain_byte b) (list_all is_plain_byte bs) plain).0)
-    go again true p false e = again e (sym (behind-first b bs rest e) ∙ parts)
+    go again true p false e = again e (sym (beyond-first b bs rest e) ∙ parts)
     go again true p true e =
         let nothing : bs ≡ [] = empty-is bs e in
         ap (λ t. after_word (codes "\n") (after_run 32 (t ++ rest))) nothing
@@ -121,7 +121,7 @@ further-keeps b [] rest parts = none (begins_with 32 rest || begins_with 10 rest
     none : (next : Bool) → not (next && false) ≡ true
     none true = refl
     none false = refl
-further-keeps b (c ∷ cs) rest parts = sym (behind-first b (c ∷ cs) rest refl) ∙ parts
+further-keeps b (c ∷ cs) rest parts = sym (beyond-first b (c ∷ cs) rest refl) ∙ parts
 
 pub plain_front_is_text : PlainFrontIsText
 unfolding items_after item_step add_atom ends_with
@@ -200,12 +200,12 @@ spaces_and_line_feed rules defined before rest (suc n) items =
     let taken : List ℕ = replicate n 32 ++ 10 ∷ [] in
     let same : taken ++ rest ≡ replicate n 32 ++ 10 ∷ rest = append_assoc (replicate n 32) (10 ∷ []) rest in
     let step = space-step rules defined before (taken ++ rest) items _ (ap (λ t. break_atom (32 ∷ t)) same ∙ break-here (suc n) rest) in
-    let behind : reverse taken ++ 32 ∷ before ≡ 10 ∷ (replicate (suc n) 32 ++ before) =
+    let beyond : reverse taken ++ 32 ∷ before ≡ 10 ∷ (replicate (suc n) 32 ++ before) =
     ap (λ t. t ++ 32 ∷ before) (reverse-append (replicate n 32) (10 ∷ []) ∙ ap (λ t. 10 ∷ t) (reverse-spaces n)) ∙ ap (λ t. 10 ∷ t) (spaces-back n before) in
     ap (λ t. items_after rules defined zero before (32 ∷ t) items) (sym same)
     ∙ reading_goes_on rules defined before 32 taken rest items (ap (λ (next : Bracketed). next.rest) step)
     ∙ ap (λ (next : Bracketed). items_after rules defined zero (reverse taken ++ 32 ∷ before) rest next.items) step
-    ∙ ap (λ passed. items_after rules defined zero passed rest (Finished (if nat_le 2 (suc n) then Hard else Soft) ∷ items)) behind
+    ∙ ap (λ passed. items_after rules defined zero passed rest (Finished (if nat_le 2 (suc n) then Hard else Soft) ∷ items)) beyond
 
 -- nothing pairs
 no-pairs : (n : ℕ) (items : List Item) → n ≡ 0 → pairs_within n items ≡ items

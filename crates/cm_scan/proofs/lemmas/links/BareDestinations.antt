@@ -4,16 +4,16 @@ use Rattle.std.specs.List.{slice_range}
 use Rattle.std.proofs.lemmas.List.{append-nil, drop_all}
 use Rattle.std.proofs.lemmas.Bool.Decides.{nat_tests}
 use Rattle.cm_scan.specs.Words.{given}
-use Rattle.cm_scan.specs.inlines.Links.{behind, opened_by, bare_run}
+use Rattle.cm_scan.specs.inlines.Links.{beyond, opened_by, bare_run}
 use Rattle.cm_scan.specs.steps.LinkSteps.{ended_at, ends_bare, is_plain_in_run}
-use Rattle.cm_scan.proofs.lemmas.links.BracketedParts.{mark, plain-mark, ahead, ahead_from, ahead-behind, slice-more}
+use Rattle.cm_scan.proofs.lemmas.links.BracketedParts.{mark, plain-mark, ahead, ahead_from, ahead-beyond, slice-more}
 
 -- how many parentheses are open after a byte that may be escaped
-abbrev pub opened_behind : ℕ → Bool → ℕ → ℕ
-opened_behind opened escaped b = if escaped then opened else opened_by opened b
+abbrev pub opened_after : ℕ → Bool → ℕ → ℕ
+opened_after opened escaped b = if escaped then opened else opened_by opened b
 
 bare-more : (opened : ℕ) (escaped : Bool) (b : ℕ) (bs : List ℕ) → (not escaped && ends_bare opened b) ≡ false → (not escaped && (b == 40 && opened == 32)) ≡ false
-    → bare_run opened escaped (b ∷ bs) ≡ behind b (bare_run (opened_behind opened escaped b) (mark escaped b bs) bs)
+    → bare_run opened escaped (b ∷ bs) ≡ beyond b (bare_run (opened_after opened escaped b) (mark escaped b bs) bs)
 unfolding bare_run
 bare-more opened true b bs h k = refl
 bare-more opened false b bs h k = grind (arith, h, k)
@@ -27,14 +27,14 @@ bare-deep opened false b bs h k = grind (arith, h, k)
 -- a byte that the run holds
 pub bare-step : (opened next : ℕ) (escaped marked : Bool) (text : List ℕ) (from at : ℕ) → from ≤ at → at < length text
     → (not escaped && ends_bare opened (get_or text at 0)) ≡ false → (not escaped && (get_or text at 0 == 40 && opened == 32)) ≡ false
-    → next ≡ opened_behind opened escaped (get_or text at 0) → marked ≡ mark escaped (get_or text at 0) (drop (suc at) text)
+    → next ≡ opened_after opened escaped (get_or text at 0) → marked ≡ mark escaped (get_or text at 0) (drop (suc at) text)
     → ahead_from text from (at + 1) (bare_run next marked (drop (at + 1) text)) ≡ ahead_from text from at (bare_run opened escaped (drop at text))
 bare-step opened next escaped marked text from at low high h k n m =
     let b = get_or text at 0 in
     let bs = drop (suc at) text in
-    let o = bare_run (opened_behind opened escaped b) (mark escaped b bs) bs in
+    let o = bare_run (opened_after opened escaped b) (mark escaped b bs) bs in
     rw (n, m, add-one)
-    (ap (λ t. ahead t o) (slice-more text from at low high) ∙ sym (ahead-behind (slice_range text from at) b o)
+    (ap (λ t. ahead t o) (slice-more text from at low high) ∙ sym (ahead-beyond (slice_range text from at) b o)
     ∙ ap (ahead_from text from at) (sym (bare-more opened escaped b bs h k))
     ∙ ap (λ t. ahead_from text from at (bare_run opened escaped t)) (sym (drop-cons text at 0 high)))
 
@@ -79,7 +79,7 @@ bare-some opened escaped text from at h none =
     ∙ ap (λ t. Some (record { text = t; rest = drop at text })) (append-nil (slice_range text from at))
 
 -- no more than 32 are open
-pub few-more : (opened next b : ℕ) (escaped : Bool) → opened ≤ 32 → (not escaped && (b == 40 && opened == 32)) ≡ false → next ≡ opened_behind opened escaped b → next ≤ 32
+pub few-more : (opened next b : ℕ) (escaped : Bool) → opened ≤ 32 → (not escaped && (b == 40 && opened == 32)) ≡ false → next ≡ opened_after opened escaped b → next ≤ 32
 few-more opened next b true h k n = omega (arith, h, n)
 few-more opened next b false h k n = grind (arith, nat_tests, h, k, n)
 
@@ -92,7 +92,7 @@ plain-fits : (opened : ℕ) (escaped : Bool) (b : ℕ) → is_plain_in_run b ≡
 plain-fits opened true b h = refl
 plain-fits opened false b h = grind (arith, nat_tests, h)
 
-plain-opened : (opened : ℕ) (escaped : Bool) (b : ℕ) → is_plain_in_run b ≡ true → opened ≡ opened_behind opened escaped b
+plain-opened : (opened : ℕ) (escaped : Bool) (b : ℕ) → is_plain_in_run b ≡ true → opened ≡ opened_after opened escaped b
 plain-opened opened true b h = refl
 plain-opened opened false b h = grind (arith, nat_tests, h)
 

@@ -10,7 +10,7 @@ use Rattle.std.proofs.lemmas.Bool.Decides.{nat_tests}
 use Rattle.cm_text.specs.Characters.{is_ascii_punct}
 use Rattle.cm_scan.specs.Words.{is_space_or_tab, skip, trim_start, begins_with}
 use Rattle.cm_scan.specs.spans.Tags.{is_blank_byte}
-use Rattle.cm_scan.specs.inlines.Links.{Reading, behind, keep_if, escapes_next, up_to_closing, characters, has_blank_line}
+use Rattle.cm_scan.specs.inlines.Links.{Reading, beyond, keep_if, escapes_next, up_to_closing, characters, has_blank_line}
 use Rattle.cm_scan.specs.steps.LinkSteps.{closed_at, begins_character, fits, is_barred, blank_follows, is_plain, is_refused}
 
 -- whether the byte after this one is escaped
@@ -39,9 +39,9 @@ barred-no_spaces open_byte true h b blank = grind (arith, nat_tests, h, blank)
 barred-no_spaces open_byte false h b blank = grind (arith, nat_tests, h, blank)
 
 -- what holds after a byte
-if-behind : (P Q : Reading → Type 0) (b : ℕ) (o : Option Reading) → ((r : Reading) → P r → Q (record { text = b ∷ r.text; rest = r.rest })) → IfSome o P → IfSome (behind b o) Q
-if-behind P Q b None step h = tt
-if-behind P Q b (Some r) step h = step r h
+if-beyond : (P Q : Reading → Type 0) (b : ℕ) (o : Option Reading) → ((r : Reading) → P r → Q (record { text = b ∷ r.text; rest = r.rest })) → IfSome o P → IfSome (beyond b o) Q
+if-beyond P Q b None step h = tt
+if-beyond P Q b (Some r) step h = step r h
 
 if-all : (P : Reading → Type 0) (o : Option Reading) → ((r : Reading) → P r) → IfSome o P
 if-all P None h = tt
@@ -67,7 +67,7 @@ if-any (Some r) = tt
 characters-cons : (b : ℕ) (bs : List ℕ) → characters (b ∷ bs) ≡ cond (begins_character b) 1 0 + characters bs
 characters-cons b bs = sum_by-cons (λ x. cond (begins_character x) 1 0) b bs
 
-too-long : (b : ℕ) (blank_lines : Bool) (o : Option Reading) → begins_character b ≡ true → keep_if (fits 0 blank_lines) (behind b o) ≡ None
+too-long : (b : ℕ) (blank_lines : Bool) (o : Option Reading) → begins_character b ≡ true → keep_if (fits 0 blank_lines) (beyond b o) ≡ None
 too-long b blank_lines None h = refl
 too-long b blank_lines (Some r) h = let more = characters-cons b r.text in grind (arith, nat_tests, h, more)
 
@@ -82,20 +82,20 @@ fits-more most b blank_lines r h k =
 
 keep-more : (most b : ℕ) (blank_lines : Bool) (o : Option Reading) → (most == 0 && begins_character b) ≡ false
     → IfSome o (λ r. (not blank_lines && blank_follows b r.text) ≡ false)
-    → keep_if (fits most blank_lines) (behind b o) ≡ behind b (keep_if (fits (most - cond (begins_character b) 1 0) blank_lines) o)
+    → keep_if (fits most blank_lines) (beyond b o) ≡ beyond b (keep_if (fits (most - cond (begins_character b) 1 0) blank_lines) o)
 keep-more most b blank_lines None h k = refl
 keep-more most b blank_lines (Some r) h k =
     let same : fits most blank_lines (record { text = b ∷ r.text; rest = r.rest }) ≡ fits (most - cond (begins_character b) 1 0) blank_lines r = fits-more most b blank_lines r h k in
     grind (arith, same)
 
-keep-blank : (most b : ℕ) (o : Option Reading) → IfSome o (λ r. blank_follows b r.text ≡ true) → keep_if (fits most false) (behind b o) ≡ None
+keep-blank : (most b : ℕ) (o : Option Reading) → IfSome o (λ r. blank_follows b r.text ≡ true) → keep_if (fits most false) (beyond b o) ≡ None
 unfolding has_blank_line
 keep-blank most b None k = refl
 keep-blank most b (Some r) k = grind (arith, nat_tests, k)
 
 module _ (closes forbidden : ℕ → Bool) where
   closed-more : (escaped : Bool) (b : ℕ) (bs : List ℕ) → (not escaped && closes b) ≡ false → (not escaped && forbidden b) ≡ false
-      → up_to_closing closes forbidden escaped (b ∷ bs) ≡ behind b (up_to_closing closes forbidden (mark escaped b bs) bs)
+      → up_to_closing closes forbidden escaped (b ∷ bs) ≡ beyond b (up_to_closing closes forbidden (mark escaped b bs) bs)
   unfolding up_to_closing
   closed-more true b bs h k = refl
   closed-more false b bs h k = grind (arith, h, k)
@@ -120,9 +120,9 @@ module _ (closes forbidden : ℕ → Bool) where
             → IfSome (up_to_closing closes forbidden false (b ∷ bs)) (λ r. begins_with 10 (trim_start r.text) ≡ begins_with 10 (trim_start (b ∷ bs)))
         by_byte true feed h k l =
             let blank : is_blank_byte b ≡ true = grind (arith, h) in
-            let more = closed-more false b bs (c b blank) (f b h) ∙ ap (λ m. behind b (up_to_closing closes forbidden m bs)) (no-mark false b bs blank) in
+            let more = closed-more false b bs (c b blank) (f b h) ∙ ap (λ m. beyond b (up_to_closing closes forbidden m bs)) (no-mark false b bs blank) in
             subst (λ o. IfSome o (λ r. begins_with 10 (trim_start r.text) ≡ begins_with 10 (trim_start (b ∷ bs)))) (sym more)
-            (if-behind (λ r. begins_with 10 (trim_start r.text) ≡ begins_with 10 (trim_start bs)) (λ r. begins_with 10 (trim_start r.text) ≡ begins_with 10 (trim_start (b ∷ bs))) b
+            (if-beyond (λ r. begins_with 10 (trim_start r.text) ≡ begins_with 10 (trim_start bs)) (λ r. begins_with 10 (trim_start r.text) ≡ begins_with 10 (trim_start (b ∷ bs))) b
             (up_to_closing closes forbidden false bs) (λ r e. grind (arith, h, e)) l)
         by_byte false true h k l =
             let blank : is_blank_byte b ≡ true = grind (arith, k) in
@@ -132,7 +132,7 @@ module _ (closes forbidden : ℕ → Bool) where
                 → IfSome (up_to_closing closes forbidden false (b ∷ bs)) (λ r. begins_with 10 (trim_start r.text) ≡ begins_with 10 (trim_start (b ∷ bs)))
             by_feed true q p = subst (λ o. IfSome o (λ r. begins_with 10 (trim_start r.text) ≡ begins_with 10 (trim_start (b ∷ bs)))) (sym (closed-forbidden b bs p q)) tt
             by_feed false q p = subst (λ o. IfSome o (λ r. begins_with 10 (trim_start r.text) ≡ begins_with 10 (trim_start (b ∷ bs)))) (sym (closed-more false b bs p q))
-                (if-behind (λ r. Unit {0}) (λ r. begins_with 10 (trim_start r.text) ≡ begins_with 10 (trim_start (b ∷ bs))) b
+                (if-beyond (λ r. Unit {0}) (λ r. begins_with 10 (trim_start r.text) ≡ begins_with 10 (trim_start (b ∷ bs))) b
                 (up_to_closing closes forbidden (mark false b bs) bs) (λ r e. grind (arith, h, k)) (if-any _))
         by_byte false false h k l = by_test (closes b) (forbidden b) refl refl
           where
@@ -141,7 +141,7 @@ module _ (closes forbidden : ℕ → Bool) where
             by_test true barred p q = subst (λ o. IfSome o (λ r. begins_with 10 (trim_start r.text) ≡ begins_with 10 (trim_start (b ∷ bs)))) (sym (closed-closes b bs p)) (grind (arith, h, k))
             by_test false true p q = subst (λ o. IfSome o (λ r. begins_with 10 (trim_start r.text) ≡ begins_with 10 (trim_start (b ∷ bs)))) (sym (closed-forbidden b bs p q)) tt
             by_test false false p q = subst (λ o. IfSome o (λ r. begins_with 10 (trim_start r.text) ≡ begins_with 10 (trim_start (b ∷ bs)))) (sym (closed-more false b bs p q))
-                (if-behind (λ r. Unit {0}) (λ r. begins_with 10 (trim_start r.text) ≡ begins_with 10 (trim_start (b ∷ bs))) b
+                (if-beyond (λ r. Unit {0}) (λ r. begins_with 10 (trim_start r.text) ≡ begins_with 10 (trim_start (b ∷ bs))) b
                 (up_to_closing closes forbidden (mark false b bs) bs) (λ r e. grind (arith, h, k)) (if-any _))
 
 -- a part with up to the given number of characters, with or without blank lines
@@ -156,9 +156,9 @@ ahead front (Some r) = Some (record { text = front ++ r.text; rest = r.rest })
 abbrev pub ahead_from : List ℕ → ℕ → ℕ → Option Reading → Option Reading
 ahead_from text from at o = ahead (slice_range text from at) o
 
-pub ahead-behind : (front : List ℕ) (b : ℕ) (o : Option Reading) → ahead front (behind b o) ≡ ahead (front ++ b ∷ []) o
-ahead-behind front b None = refl
-ahead-behind front b (Some r) = ap (λ t. Some (record { text = t; rest = r.rest })) (sym (append_assoc front (b ∷ []) r.text))
+pub ahead-beyond : (front : List ℕ) (b : ℕ) (o : Option Reading) → ahead front (beyond b o) ≡ ahead (front ++ b ∷ []) o
+ahead-beyond front b None = refl
+ahead-beyond front b (Some r) = ap (λ t. Some (record { text = t; rest = r.rest })) (sym (append_assoc front (b ∷ []) r.text))
 
 pub slice-none : (text : List ℕ) (from : ℕ) → slice_range text from from ≡ []
 slice-none text from = let none : from - from ≡ 0 = omega arith in rw none refl
@@ -212,7 +212,7 @@ module _ (closes forbidden : ℕ → Bool) where
     -- a byte that is skipped
     part-more : (most : ℕ) (blank_lines escaped : Bool) (b : ℕ) (bs : List ℕ) → (not escaped && closes b) ≡ false → (not escaped && forbidden b) ≡ false
         → (most == 0 && begins_character b) ≡ false → (not blank_lines && blank_follows b bs) ≡ false
-        → part closes forbidden most blank_lines escaped (b ∷ bs) ≡ behind b (part closes forbidden (most - cond (begins_character b) 1 0) blank_lines (mark escaped b bs) bs)
+        → part closes forbidden most blank_lines escaped (b ∷ bs) ≡ beyond b (part closes forbidden (most - cond (begins_character b) 1 0) blank_lines (mark escaped b bs) bs)
     part-more most blank_lines escaped b bs h k l m =
         ap (keep_if (fits most blank_lines)) (closed-more closes forbidden escaped b bs h k)
         ∙ keep-more most b blank_lines (up_to_closing closes forbidden (mark escaped b bs) bs) l
@@ -228,7 +228,7 @@ module _ (closes forbidden : ℕ → Bool) where
         let b = get_or text at 0 in
         let bs = drop (suc at) text in
         let o = part closes forbidden (most - cond (begins_character b) 1 0) blank_lines (mark escaped b bs) bs in
-        ap (λ t. ahead t o) (slice-more text from at low high) ∙ sym (ahead-behind (slice_range text from at) b o)
+        ap (λ t. ahead t o) (slice-more text from at low high) ∙ sym (ahead-beyond (slice_range text from at) b o)
         ∙ ap (ahead_from text from at) (sym (part-more most blank_lines escaped b bs h k l m))
         ∙ ap (λ t. ahead_from text from at (part closes forbidden most blank_lines escaped t)) (sym (drop-cons text at 0 high))
 
@@ -237,7 +237,7 @@ module _ (closes forbidden : ℕ → Bool) where
         → part closes forbidden most blank_lines escaped (b ∷ bs) ≡ None
     part-refused most blank_lines escaped b bs h k = by_test (not escaped && forbidden b) (most == 0 && begins_character b) refl refl
       where
-        more : (not escaped && forbidden b) ≡ false → up_to_closing closes forbidden escaped (b ∷ bs) ≡ behind b (up_to_closing closes forbidden (mark escaped b bs) bs)
+        more : (not escaped && forbidden b) ≡ false → up_to_closing closes forbidden escaped (b ∷ bs) ≡ beyond b (up_to_closing closes forbidden (mark escaped b bs) bs)
         more e = closed-more closes forbidden escaped b bs h e
 
         by_test : (barred long : Bool) → (not escaped && forbidden b) ≡ barred → (most == 0 && begins_character b) ≡ long → part closes forbidden most blank_lines escaped (b ∷ bs) ≡ None
@@ -249,12 +249,12 @@ module _ (closes forbidden : ℕ → Bool) where
         by_test false true e l =
             let none : most ≡ 0 = grind (arith, nat_tests, l) in
             let begins : begins_character b ≡ true = grind (arith, l) in
-            ap (keep_if (fits most blank_lines)) (more e) ∙ ap (λ n. keep_if (fits n blank_lines) (behind b (up_to_closing closes forbidden (mark escaped b bs) bs))) none
+            ap (keep_if (fits most blank_lines)) (more e) ∙ ap (λ n. keep_if (fits n blank_lines) (beyond b (up_to_closing closes forbidden (mark escaped b bs) bs))) none
             ∙ too-long b blank_lines (up_to_closing closes forbidden (mark escaped b bs) bs) begins
         by_test false false e l =
             let blank : blank_lines ≡ false = grind (arith, e, l, k) in
             let follows : blank_follows b bs ≡ true = right_of (not blank_lines) (blank_follows b bs) (grind (arith, e, l, k)) in
-            ap (keep_if (fits most blank_lines)) (more e) ∙ ap (λ v. keep_if (fits most v) (behind b (up_to_closing closes forbidden (mark escaped b bs) bs))) blank
+            ap (keep_if (fits most blank_lines)) (more e) ∙ ap (λ v. keep_if (fits most v) (beyond b (up_to_closing closes forbidden (mark escaped b bs) bs))) blank
             ∙ keep-blank most b (up_to_closing closes forbidden (mark escaped b bs) bs)
             (if-some (λ r. blank_follows b r.text ≡ blank_follows b bs) (λ r. blank_follows b r.text ≡ true) (up_to_closing closes forbidden (mark escaped b bs) bs)
             (λ r e. e ∙ follows) (follows-same b bs escaped))
@@ -375,9 +375,9 @@ pub escapes-here : (text : List ℕ) (at : ℕ) → get_or text at 0 ≡ 92 → 
 escapes-here text at h within = rw (add-one) (escapes-at text at h within)
 
 -- the byte at a place, and those after it
-pub here-and-behind : (test : ℕ → Bool) (text : List ℕ) (at end : ℕ) → test (get_or text at 0) ≡ true → ((k : ℕ) → at + 1 ≤ k → k < end → test (get_or text k 0) ≡ true)
+pub here-and-beyond : (test : ℕ → Bool) (text : List ℕ) (at end : ℕ) → test (get_or text at 0) ≡ true → ((k : ℕ) → at + 1 ≤ k → k < end → test (get_or text k 0) ≡ true)
     → (k : ℕ) → at ≤ k → k < end → test (get_or text k 0) ≡ true
-here-and-behind test text at end here behind k low under = ⊎_elim
-    (λ past. behind k (omega (arith, past)) under)
+here-and-beyond test text at end here beyond k low under = ⊎_elim
+    (λ past. beyond k (omega (arith, past)) under)
     (λ same. let is : at ≡ k = omega (arith, low, same) in subst (λ j. test (get_or text j 0) ≡ true) is here)
     (cases_lt at k)

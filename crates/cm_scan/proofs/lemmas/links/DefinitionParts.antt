@@ -1,6 +1,6 @@
 -- A link reference definition, by its parts.
 use Rattle.std.proofs.Common.{◌≡◌, ℕ, suc, ◌+◌, Bool, true, false, List, [], ◌∷◌, drop, Option, Some, None, codes, refl, sym, ap, subst, ◌∙◌, arith}
-use Rattle.cm_scan.specs.Words.{begins_with, after_word, ◌<|>◌}
+use Rattle.cm_scan.specs.Words.{begins_with, after_word, ◌<|>◌, ◌and_then◌}
 use Rattle.cm_scan.specs.spans.Tags.{is_blank_next, after_gap}
 use Rattle.cm_scan.specs.inlines.Links.{Reading, LinkDefinition, label, destination, title, after_line, defined, titled, untitled, link_definition}
 use Rattle.cm_scan.specs.Scanned.{definition_with}
@@ -50,18 +50,15 @@ unfolding untitled
 end-some l d text rest t n = sym (ap (λ o. o <|> untitled l d text) (sym t) ∙ ap (defined l d []) (sym n))
 
 -- the whole
-abbrev behind_label : Reading → Option LinkDefinition
-behind_label l = elim (after_word (codes ":") l.rest) [
-  | Some behind_colon ↦ elim (destination (after_gap behind_colon)) [
-    | Some d ↦ titled l.text d.text d.rest <|> untitled l.text d.text d.rest
-    | None ↦ None
-  ]
-  | None ↦ None
-]
+abbrev after_colon : Reading → List ℕ → Option LinkDefinition
+after_colon l rest = destination (after_gap rest) and_then λ d. titled l.text d.text d.rest <|> untitled l.text d.text d.rest
 
-by-label : (text : List ℕ) (l : Option Reading) → label text ≡ l → link_definition text ≡ elim l as (λ _. Option LinkDefinition) [ Some s ↦ behind_label s | None ↦ None ]
+abbrev after_label : Reading → Option LinkDefinition
+after_label l = after_word (codes ":") l.rest and_then after_colon l
+
+by-label : (text : List ℕ) (l : Option Reading) → label text ≡ l → link_definition text ≡ (l and_then after_label)
 unfolding link_definition
-by-label text l h = ap (λ o. elim o as (λ _. Option LinkDefinition) [ Some s ↦ behind_label s | None ↦ None ]) h
+by-label text l h = ap (λ o. o and_then after_label) h
 
 no-colon : (bs : List ℕ) → begins_with 58 bs ≡ false → after_word (codes ":") bs ≡ None
 unfolding after_word
@@ -75,36 +72,24 @@ colon-next bs = refl
 pub no-label : (text : List ℕ) → None ≡ label text → None ≡ link_definition text
 no-label text h = sym (by-label text None (sym h))
 
-by-colon : (l : Reading) (c : Option (List ℕ)) → after_word (codes ":") l.rest ≡ c → behind_label l ≡ elim c as (λ _. Option LinkDefinition) [
-  | Some behind_colon ↦ elim (destination (after_gap behind_colon)) [
-    | Some d ↦ titled l.text d.text d.rest <|> untitled l.text d.text d.rest
-    | None ↦ None
-  ]
-  | None ↦ None
-]
-by-colon l c h = ap (λ o. elim o as (λ _. Option LinkDefinition) [
-  | Some behind_colon ↦ elim (destination (after_gap behind_colon)) [
-    | Some d ↦ titled l.text d.text d.rest <|> untitled l.text d.text d.rest
-    | None ↦ None
-  ]
-  | None ↦ None
-]) h
+by-colon : (l : Reading) (c : Option (List ℕ)) → after_word (codes ":") l.rest ≡ c → after_label l ≡ (c and_then after_colon l)
+by-colon l c h = ap (λ o. o and_then after_colon l) h
 
 pub label-alone : (text : List ℕ) (l : Reading) (next : Bool) → Some l ≡ label text → next ≡ begins_with 58 l.rest → next ≡ false → None ≡ link_definition text
 label-alone text l next h e n = sym (by-label text (Some l) (sym h) ∙ by-colon l None (no-colon l.rest (sym e ∙ n)))
 
 -- after the colon
-behind-colon : (text : List ℕ) (l : Reading) (bs : List ℕ) (d : Option Reading) → Some l ≡ label text → l.rest ≡ 58 ∷ bs → destination (after_gap bs) ≡ d
-    → link_definition text ≡ elim d as (λ _. Option LinkDefinition) [ Some r ↦ titled l.text r.text r.rest <|> untitled l.text r.text r.rest | None ↦ None ]
-behind-colon text l bs d h c e =
+beyond-colon : (text : List ℕ) (l : Reading) (bs : List ℕ) (d : Option Reading) → Some l ≡ label text → l.rest ≡ 58 ∷ bs → destination (after_gap bs) ≡ d
+    → link_definition text ≡ (d and_then λ r. titled l.text r.text r.rest <|> untitled l.text r.text r.rest)
+beyond-colon text l bs d h c e =
     by-label text (Some l) (sym h) ∙ by-colon l (Some bs) (ap (after_word (codes ":")) c ∙ colon-next bs)
-    ∙ ap (λ o. elim o as (λ _. Option LinkDefinition) [ Some r ↦ titled l.text r.text r.rest <|> untitled l.text r.text r.rest | None ↦ None ]) e
+    ∙ ap (λ o. o and_then λ r. titled l.text r.text r.rest <|> untitled l.text r.text r.rest) e
 
 pub no-destination : (text whole : List ℕ) (inside : List ℕ) (colon gap : ℕ) (next : Bool) → Some (record { text = inside; rest = drop colon whole }) ≡ label text → next ≡ begins_with 58 (drop colon whole) → next ≡ true
     → drop gap whole ≡ after_gap (drop (colon + 1) whole) → None ≡ destination (drop gap whole) → None ≡ link_definition text
 no-destination text whole inside colon gap next h e n g d =
     let first : colon + 1 ≡ suc colon = omega arith in
-    sym (behind-colon text (record { text = inside; rest = drop colon whole }) (drop (suc colon) whole) None h (begins-at 58 whole colon (sym e ∙ n)).1
+    sym (beyond-colon text (record { text = inside; rest = drop colon whole }) (drop (suc colon) whole) None h (begins-at 58 whole colon (sym e ∙ n)).1
     (ap destination (sym (g ∙ ap (λ k. after_gap (drop k whole)) first)) ∙ sym d))
 
 pub whole-definition : (text whole inside : List ℕ) (colon gap : ℕ) (next : Bool) (d : Reading) (made : Option LinkDefinition)
@@ -112,5 +97,5 @@ pub whole-definition : (text whole inside : List ℕ) (colon gap : ℕ) (next : 
     → drop gap whole ≡ after_gap (drop (colon + 1) whole) → Some d ≡ destination (drop gap whole) → made ≡ (titled inside d.text d.rest <|> untitled inside d.text d.rest) → made ≡ link_definition text
 whole-definition text whole inside colon gap next d made h e n g s m =
     let first : colon + 1 ≡ suc colon = omega arith in
-    m ∙ sym (behind-colon text (record { text = inside; rest = drop colon whole }) (drop (suc colon) whole) (Some d) h (begins-at 58 whole colon (sym e ∙ n)).1
+    m ∙ sym (beyond-colon text (record { text = inside; rest = drop colon whole }) (drop (suc colon) whole) (Some d) h (begins-at 58 whole colon (sym e ∙ n)).1
     (ap destination (sym (g ∙ ap (λ k. after_gap (drop k whole)) first)) ∙ sym s))

@@ -1,9 +1,9 @@
 -- Each reading leaves a rest with no more line feeds than the text, and a definition takes whole lines.
 use Rattle.std.proofs.Common.{ℕ, ◌≤◌, ◌==◌, Bool, true, false, List, [], ◌∷◌, arith, le_refl, Some, None, IfSome}
 use Rattle.std.specs.Prelude.{◌||◌, Option, codes}
-use Rattle.cm_scan.specs.Words.{skip, trim_start, after_word, ◌<|>◌}
+use Rattle.cm_scan.specs.Words.{skip, trim_start, after_word, ◌<|>◌, ◌and_then◌}
 use Rattle.cm_scan.specs.spans.Tags.{after_gap, after_line_ending, is_blank_next}
-use Rattle.cm_scan.specs.inlines.Links.{Reading, behind, keep_if, escapes_next, up_to_closing, is_label, label, opened_by, bare_run, is_filled, has_no_blank_line, destination, title_in, title, LinkDefinition, at_line_end, after_line, defined, titled, untitled, link_definition}
+use Rattle.cm_scan.specs.inlines.Links.{Reading, beyond, keep_if, escapes_next, up_to_closing, is_label, label, opened_by, bare_run, is_filled, has_no_blank_line, destination, title_in, title, LinkDefinition, at_line_end, after_line, defined, titled, untitled, link_definition}
 use Rattle.cm_scan.specs.blocks.Blocks.{line_feeds, line_count}
 
 pub feeds-skip : (test : ℕ → Bool) (text : List ℕ) → line_feeds (skip test text) ≤ line_feeds text
@@ -32,17 +32,17 @@ feeds-after_word (w ∷ ws) [] = tt
 feeds-after_word (w ∷ ws) (b ∷ bs) = let h : NoMore bs (after_word ws bs) = feeds-after_word ws bs in grind (arith, h)
 
 -- a byte before makes a text no shorter in line feeds
-feeds-behind : (b : ℕ) (bs : List ℕ) (r : Option Reading) → Leaves bs r → Leaves (b ∷ bs) (behind b r)
+feeds-beyond : (b : ℕ) (bs : List ℕ) (r : Option Reading) → Leaves bs r → Leaves (b ∷ bs) (beyond b r)
 unfolding line_feeds
-feeds-behind b bs None h = tt
-feeds-behind b bs (Some r) h = grind (arith, h)
+feeds-beyond b bs None h = tt
+feeds-beyond b bs (Some r) h = grind (arith, h)
 
 feeds-closed_by : (closes forbidden : ℕ → Bool) (escaped : Bool) (text : List ℕ) → Leaves text (up_to_closing closes forbidden escaped text)
 unfolding up_to_closing line_feeds
 feeds-closed_by closes forbidden escaped [] = tt
-feeds-closed_by closes forbidden true (b ∷ bs) = feeds-behind b bs _ (feeds-closed_by closes forbidden false bs)
+feeds-closed_by closes forbidden true (b ∷ bs) = feeds-beyond b bs _ (feeds-closed_by closes forbidden false bs)
 feeds-closed_by closes forbidden false (b ∷ bs) =
-    let h : Leaves (b ∷ bs) (behind b (up_to_closing closes forbidden (escapes_next b bs) bs)) = feeds-behind b bs _ (feeds-closed_by closes forbidden (escapes_next b bs) bs) in
+    let h : Leaves (b ∷ bs) (beyond b (up_to_closing closes forbidden (escapes_next b bs) bs)) = feeds-beyond b bs _ (feeds-closed_by closes forbidden (escapes_next b bs) bs) in
     grind (arith, h)
 
 feeds-keep_if : (test : Reading → Bool) (text : List ℕ) (r : Option Reading) → Leaves text r → Leaves text (keep_if test r)
@@ -69,9 +69,9 @@ feeds-label (b ∷ bs) =
 feeds-bare_run : (opened : ℕ) (escaped : Bool) (text : List ℕ) → Leaves text (bare_run opened escaped text)
 unfolding bare_run line_feeds
 feeds-bare_run opened escaped [] = grind arith
-feeds-bare_run opened true (b ∷ bs) = feeds-behind b bs _ (feeds-bare_run opened false bs)
+feeds-bare_run opened true (b ∷ bs) = feeds-beyond b bs _ (feeds-bare_run opened false bs)
 feeds-bare_run opened false (b ∷ bs) =
-    let h : Leaves (b ∷ bs) (behind b (bare_run (opened_by opened b) (escapes_next b bs) bs)) = feeds-behind b bs _ (feeds-bare_run (opened_by opened b) (escapes_next b bs) bs) in
+    let h : Leaves (b ∷ bs) (beyond b (bare_run (opened_by opened b) (escapes_next b bs) bs)) = feeds-beyond b bs _ (feeds-bare_run (opened_by opened b) (escapes_next b bs) bs) in
     grind (arith, h)
 
 feeds-destination : (text : List ℕ) → Leaves text (destination text)
@@ -126,9 +126,9 @@ takes-defined : (l d t text : List ℕ) (rest : Option (List ℕ)) → Fewer tex
 takes-defined l d t text None h = tt
 takes-defined l d t text (Some rest) h = h
 
-fewer-further : (text behind : List ℕ) (rest : Option (List ℕ)) → line_feeds behind ≤ line_feeds text → Fewer behind rest → Fewer text rest
-fewer-further text behind None h k = tt
-fewer-further text behind (Some rest) h k = omega (arith, h, k)
+fewer-further : (text beyond : List ℕ) (rest : Option (List ℕ)) → line_feeds beyond ≤ line_feeds text → Fewer beyond rest → Fewer text rest
+fewer-further text beyond None h k = tt
+fewer-further text beyond (Some rest) h k = omega (arith, h, k)
 
 takes-titled : (l d text : List ℕ) → TakesALine text (titled l d text)
 unfolding titled
@@ -152,10 +152,10 @@ takes-either : (text : List ℕ) (first second : Option LinkDefinition) → Take
 takes-either text None second h k = k
 takes-either text (Some d) second h k = h
 
-takes-behind : (label text whole : List ℕ) (d : Option Reading) → line_feeds text ≤ line_feeds whole → Leaves text d
-    → TakesALine whole (elim d as (λ _. Option LinkDefinition) [ Some r ↦ titled label r.text r.rest <|> untitled label r.text r.rest | None ↦ None ])
-takes-behind label text whole None h k = tt
-takes-behind label text whole (Some r) h k =
+takes-beyond : (label text whole : List ℕ) (d : Option Reading) → line_feeds text ≤ line_feeds whole → Leaves text d
+    → TakesALine whole (d and_then λ r. titled label r.text r.rest <|> untitled label r.text r.rest)
+takes-beyond label text whole None h k = tt
+takes-beyond label text whole (Some r) h k =
     let l = takes-either r.rest (titled label r.text r.rest) (untitled label r.text r.rest) (takes-titled label r.text r.rest) (takes-untitled label r.text r.rest) in
     grind (arith, h, k, l)
 
@@ -164,28 +164,14 @@ unfolding link_definition
 takes_a_line text = by_label (label text) (feeds-label text)
   where
     by_colon : (l : Reading) → line_feeds l.rest ≤ line_feeds text → (colon : Option (List ℕ)) → NoMore l.rest colon
-        → TakesALine text (elim colon as (λ _. Option LinkDefinition) [
-          | Some behind_colon ↦ elim (destination (after_gap behind_colon)) [
-            | Some d ↦ titled l.text d.text d.rest <|> untitled l.text d.text d.rest
-            | None ↦ None
-          ]
-          | None ↦ None
-        ])
+        → TakesALine text (colon and_then λ rest. destination (after_gap rest) and_then λ d. titled l.text d.text d.rest <|> untitled l.text d.text d.rest)
     by_colon l h None k = tt
     by_colon l h (Some rest) k =
         let g : line_feeds (after_gap rest) ≤ line_feeds rest = feeds-after_gap rest in
-        takes-behind l.text (after_gap rest) text (destination (after_gap rest)) (omega (arith, g, h, k)) (feeds-destination (after_gap rest))
+        takes-beyond l.text (after_gap rest) text (destination (after_gap rest)) (omega (arith, g, h, k)) (feeds-destination (after_gap rest))
 
     by_label : (l : Option Reading) → Leaves text l
-        → TakesALine text (elim l as (λ _. Option LinkDefinition) [
-          | Some l ↦ elim (after_word (codes ":") l.rest) [
-            | Some behind_colon ↦ elim (destination (after_gap behind_colon)) [
-              | Some d ↦ titled l.text d.text d.rest <|> untitled l.text d.text d.rest
-              | None ↦ None
-            ]
-            | None ↦ None
-          ]
-          | None ↦ None
-        ])
+        → TakesALine text (l and_then λ l. after_word (codes ":") l.rest and_then λ rest. destination (after_gap rest) and_then λ d.
+        titled l.text d.text d.rest <|> untitled l.text d.text d.rest)
     by_label None h = tt
     by_label (Some l) h = by_colon l h (after_word (codes ":") l.rest) (feeds-after_word (codes ":") l.rest)

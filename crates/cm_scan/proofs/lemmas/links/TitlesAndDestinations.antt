@@ -4,7 +4,7 @@ use Rattle.std.proofs.lemmas.List.{drop_all, length-drop}
 use Rattle.std.proofs.lemmas.List.Sums.{count_by-le-length}
 use Rattle.std.proofs.lemmas.Bool.Decides.{nat_tests}
 use Rattle.cm_scan.specs.Words.{begins_with}
-use Rattle.cm_scan.specs.inlines.Links.{Reading, behind, keep_if, escapes_next, up_to_closing, characters, has_no_blank_line, bare_run, is_filled, destination, title_in, title}
+use Rattle.cm_scan.specs.inlines.Links.{Reading, beyond, keep_if, escapes_next, up_to_closing, characters, has_no_blank_line, bare_run, is_filled, destination, title_in, title}
 use Rattle.cm_scan.specs.steps.LinkSteps.{fits, is_barred, title_end, begins_character}
 use Rattle.cm_scan.proofs.lemmas.texts.ScannerAnswers.{begins-at}
 
@@ -13,22 +13,22 @@ closed-same : (closes f g : ℕ → Bool) → ((b : ℕ) → closes b ≡ false 
 unfolding up_to_closing
 closed-same closes f g same true [] = refl
 closed-same closes f g same false [] = refl
-closed-same closes f g same true (b ∷ bs) = ap (behind b) (closed-same closes f g same false bs)
+closed-same closes f g same true (b ∷ bs) = ap (beyond b) (closed-same closes f g same false bs)
 closed-same closes f g same false (b ∷ bs) = by_test (closes b) refl (closed-same closes f g same (escapes_next b bs) bs)
   where
     rest : (ℕ → Bool) → Option Reading
     rest h = up_to_closing closes h (escapes_next b bs) bs
 
     by_test : (closing : Bool) → closes b ≡ closing → rest f ≡ rest g
-        → (elim closing as (λ _. Option Reading) [ true ↦ Some (record { text = []; rest = bs }) | false ↦ elim (f b) [ true ↦ None | false ↦ behind b (rest f) ] ])
-        ≡ (elim closing as (λ _. Option Reading) [ true ↦ Some (record { text = []; rest = bs }) | false ↦ elim (g b) [ true ↦ None | false ↦ behind b (rest g) ] ])
+        → (elim closing as (λ _. Option Reading) [ true ↦ Some (record { text = []; rest = bs }) | false ↦ elim (f b) [ true ↦ None | false ↦ beyond b (rest f) ] ])
+        ≡ (elim closing as (λ _. Option Reading) [ true ↦ Some (record { text = []; rest = bs }) | false ↦ elim (g b) [ true ↦ None | false ↦ beyond b (rest g) ] ])
     by_test true h k = refl
     by_test false h k =
-        ap (λ v. elim v as (λ _. Option Reading) [ true ↦ None | false ↦ behind b (rest f) ]) (same b h)
-        ∙ ap (λ o. elim (g b) as (λ _. Option Reading) [ true ↦ None | false ↦ behind b o ]) k
+        ap (λ v. elim v as (λ _. Option Reading) [ true ↦ None | false ↦ beyond b (rest f) ]) (same b h)
+        ∙ ap (λ o. elim (g b) as (λ _. Option Reading) [ true ↦ None | false ↦ beyond b o ]) k
 
 -- a part is no longer than the text
-longer : (b n : ℕ) (o : Option Reading) → IfSome o (λ r. length r.text ≤ n) → IfSome (behind b o) (λ r. length r.text ≤ suc n)
+longer : (b n : ℕ) (o : Option Reading) → IfSome o (λ r. length r.text ≤ n) → IfSome (beyond b o) (λ r. length r.text ≤ suc n)
 longer b n None h = tt
 longer b n (Some r) h = omega (arith, h)
 
@@ -38,7 +38,7 @@ closed-short closes forbidden true [] = tt
 closed-short closes forbidden false [] = tt
 closed-short closes forbidden true (b ∷ bs) = longer b (length bs) (up_to_closing closes forbidden false bs) (closed-short closes forbidden false bs)
 closed-short closes forbidden false (b ∷ bs) =
-    let h : IfSome (behind b (up_to_closing closes forbidden (escapes_next b bs) bs)) (λ r. length r.text ≤ suc (length bs))
+    let h : IfSome (beyond b (up_to_closing closes forbidden (escapes_next b bs) bs)) (λ r. length r.text ≤ suc (length bs))
     = longer b (length bs) (up_to_closing closes forbidden (escapes_next b bs) bs) (closed-short closes forbidden (escapes_next b bs) bs) in
     grind (arith, h)
 

@@ -1,12 +1,14 @@
 -- What a `<` starts, with more text after.
 use Rattle.std.proofs.Common.{◌≡◌, ℕ, ◌-◌, ◌≤◌, List, [], ◌++◌, length, take, Bool, true, false, Option, Some, None, refl, sym, ap, ◌∙◌, arith, length-append}
 use Rattle.std.proofs.lemmas.List.{take-append-le}
+use Rattle.cm_scan.specs.Words.{given}
 use Rattle.cm_scan.specs.spans.RawHtml.{raw_html}
 use Rattle.cm_text.specs.Rules.{Rules}
 use Rattle.cm_text.specs.Addresses.{is_followed}
-use Rattle.cm_scan.specs.spans.Autolinks.{Autolink, autolink, link_if_followed, followed_autolink}
-use Rattle.cm_scan.specs.spans.Angles.{Angled, Addressed, Tagged, before, tagged, at_angle}
+use Rattle.cm_scan.specs.spans.Autolinks.{Autolink, autolink, followed_autolink}
+use Rattle.cm_scan.specs.spans.Angles.{Angled, Addressed, Tagged, before, at_angle}
 use Rattle.cm_scan.specs.laws.SpanLaws.{longer_angled, AngledGoesOn, WholeTagGoesOn}
+use Rattle.cm_scan.specs.steps.SpanSteps.{link_if_followed, tagged}
 use Rattle.cm_scan.proofs.lemmas.texts.WordsGoOn.{none-some}
 use Rattle.cm_scan.proofs.lemmas.spans.RawHtmlGoesOn.{raw_html_goes_on}
 use Rattle.cm_scan.proofs.lemmas.spans.AutolinkGoesOn.{longer_link, autolink_goes_on, no_autolink_goes_on}
@@ -29,7 +31,7 @@ followed-longer rules link x = go (is_followed rules link.destination)
     longer : Autolink
     longer = record { destination = link.destination; text = link.text; rest = link.rest ++ x }
 
-    go : (t : Bool) → elim t as (λ _. Option Autolink) [ true ↦ Some longer | false ↦ None ] ≡ longer_link (elim t as (λ _. Option Autolink) [ true ↦ Some link | false ↦ None ]) x
+    go : (t : Bool) → given t longer ≡ longer_link (given t link) x
     go true = refl
     go false = refl
 

@@ -1,10 +1,11 @@
 -- Autolinks with more text after.
 use Rattle.std.proofs.Common.{◌≡◌, ℕ, Bool, true, false, ◌==◌, ◌||◌, List, [], ◌∷◌, ◌++◌, Option, Some, None, codes, cond, refl, sym, ap, ◌∙◌}
 use Rattle.std.proofs.lemmas.Bool.{eqb-true}
-use Rattle.cm_scan.specs.Words.{is_empty, skip, front_of, after_word}
+use Rattle.cm_scan.specs.Words.{is_empty, skip, front_of, after_word, ◌and_then◌}
 use Rattle.cm_scan.specs.inlines.Links.{Reading}
-use Rattle.cm_scan.specs.spans.Autolinks.{Autolink, is_inside, ended, in_angles, is_absolute, is_address, as_autolink, autolink}
+use Rattle.cm_scan.specs.spans.Autolinks.{Autolink, is_inside, in_angles, is_absolute, is_address, as_autolink, autolink}
 use Rattle.cm_scan.specs.laws.SpanLaws.{AutolinkGoesOn, NoAutolinkGoesOn}
+use Rattle.cm_scan.specs.steps.SpanSteps.{ended}
 use Rattle.cm_scan.proofs.lemmas.texts.WordsGoOn.{longer, false-true, none-some, word-extends, word-other, skip-extends, front-extends}
 use Rattle.cm_scan.proofs.lemmas.spans.TagsGoOn.{not-empty, at-least-one}
 use Rattle.cm_scan.proofs.lemmas.spans.RawHtmlGoesOn.{word-front}
@@ -36,7 +37,7 @@ unfolding in_angles
 some-angles text x r e = go (after_word (codes "<") text) refl e
   where
     by : Option (List ℕ) → Option Reading
-    by o = elim o as (λ _. Option Reading) [ Some inside ↦ ended (front_of is_inside inside) (after_word (codes ">") (skip is_inside inside)) | None ↦ None ]
+    by o = o and_then λ inside. ended (front_of is_inside inside) (after_word (codes ">") (skip is_inside inside))
 
     go : (o : Option (List ℕ)) → after_word (codes "<") text ≡ o → by o ≡ Some r → by (after_word (codes "<") (text ++ x)) ≡ Some (longer r x)
     go None f e = none-some e
@@ -64,7 +65,7 @@ unfolding in_angles
 all-angles text x h = go (after_word (codes "<") text) refl
   where
     by : Option (List ℕ) → Option Reading
-    by o = elim o as (λ _. Option Reading) [ Some inside ↦ ended (front_of is_inside inside) (after_word (codes ">") (skip is_inside inside)) | None ↦ None ]
+    by o = o and_then λ inside. ended (front_of is_inside inside) (after_word (codes ">") (skip is_inside inside))
 
     some-left : (t : List ℕ) → has_end t ≡ true → is_empty t ≡ false
     some-left [] e = false-true e

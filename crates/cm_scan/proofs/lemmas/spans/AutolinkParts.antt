@@ -1,21 +1,22 @@
 -- Autolinks in a text, part by part.
 use Rattle.std.proofs.Common.{◌≡◌, ℕ, zero, suc, ◌+◌, ◌-◌, ◌<◌, ◌≤◌, ◌==◌, ◌&&◌, ◌||◌, not, Bool, true, false, List, [], ◌∷◌, ◌++◌, length, take, drop, get_or, Option, Some, None, codes, IsUtf8, refl, sym, ap, ◌∙◌, arith, add-one, append_assoc, drop-cons, length-take-le}
-use Rattle.std.specs.List.{slice_range, list_all, position_or_len}
+use Rattle.std.specs.List.{slice_range, onto_first, list_all, position_or_len}
 use Rattle.std.specs.Prelude.{cond}
 use Rattle.std.proofs.Common.{drop-drop, length-drop}
 use Rattle.std.proofs.lemmas.List.Sums.{prefix_len-le-length, fails_before_first}
 use Rattle.cm_text.specs.Search.{next_place}
 use Rattle.std.specs.Str.{IsCharBoundary}
+use Rattle.std.specs.Int.{is_in_range}
+use Rattle.std.specs.Char.{is_ascii_alphabetic}
 use Rattle.std.proofs.lemmas.List.{append-nil, drop_all, get_or-drop}
 use Rattle.std.proofs.lemmas.Bool.Decides.{nat_tests}
 use Rattle.std.proofs.lemmas.Str.{IsCharBoundary-after_ascii}
 use Rattle.memchr.specs.Find.{IsFirstByte, is_byte}
-use Rattle.cm_text.specs.Characters.{within}
-use Rattle.cm_scan.specs.Words.{is_letter, is_empty, begins_with, skip, front_of, after_word}
+use Rattle.cm_scan.specs.Words.{is_empty, begins_with, skip, front_of, after_word}
 use Rattle.cm_scan.specs.inlines.Links.{Reading}
-use Rattle.cm_scan.specs.spans.Autolinks.{Autolink, is_inside, ended, in_angles, continues_scheme, is_scheme, is_absolute, stands_in_address, onto_first, labels, ends_with, is_host_label, is_address, as_autolink, autolink}
+use Rattle.cm_scan.specs.spans.Autolinks.{Autolink, is_inside, in_angles, continues_scheme, is_scheme, is_absolute, stands_in_address, ends_with, is_host_label, is_address, as_autolink, autolink}
 use Rattle.cm_scan.specs.Scanned.{autolink_with}
-use Rattle.cm_scan.specs.steps.SpanSteps.{is_host_byte}
+use Rattle.cm_scan.specs.steps.SpanSteps.{is_host_byte, labels, ended}
 use Rattle.cm_scan.proofs.lemmas.texts.ScannerAnswers.{begins-at}
 use Rattle.cm_scan.proofs.lemmas.links.BracketedParts.{slice-none, slice-more}
 use Rattle.cm_scan.proofs.lemmas.spans.TagParts.{skip_shorter, front-is}
@@ -135,9 +136,9 @@ next-ascii b text at next utf8 ascii e h =
 
 -- an absolute URI
 
-scheme-of : (inside : List ℕ) (n : ℕ) → n ≤ length inside → is_scheme (take n inside) ≡ (is_letter (get_or inside 0 0) && within 2 32 n)
+scheme-of : (inside : List ℕ) (n : ℕ) → n ≤ length inside → is_scheme (take n inside) ≡ (is_ascii_alphabetic (get_or inside 0 0) && is_in_range 2 32 n)
 unfolding is_scheme
-scheme-of inside zero h = last (is_letter (get_or inside 0 0))
+scheme-of inside zero h = last (is_ascii_alphabetic (get_or inside 0 0))
   where
     last : (c : Bool) → false ≡ (c && false)
     last true = refl
@@ -145,30 +146,30 @@ scheme-of inside zero h = last (is_letter (get_or inside 0 0))
 scheme-of [] (suc n) h = absurd (omega (arith, h))
 scheme-of (b ∷ bs) (suc n) h =
     let size : length (take n bs) ≡ n = length-take-le n bs (omega (arith, h)) in
-    let same : within 1 31 n ≡ within 2 32 (suc n) = grind (arith, nat_tests) in
-    ap (λ m. is_letter b && within 1 31 m) size ∙ ap (λ v. is_letter b && v) same
+    let same : is_in_range 1 31 n ≡ is_in_range 2 32 (suc n) = grind (arith, nat_tests) in
+    ap (λ m. is_ascii_alphabetic b && is_in_range 1 31 m) size ∙ ap (λ v. is_ascii_alphabetic b && v) same
 
 module _ (inside : List ℕ) where
-  absolute-is : is_absolute inside ≡ (is_letter (get_or inside 0 0) && within 2 32 (length inside - length (skip continues_scheme inside)) && begins_with 58 (skip continues_scheme inside))
+  absolute-is : is_absolute inside ≡ (is_ascii_alphabetic (get_or inside 0 0) && is_in_range 2 32 (length inside - length (skip continues_scheme inside)) && begins_with 58 (skip continues_scheme inside))
   unfolding is_absolute
   absolute-is =
       ap (λ t. is_scheme t && begins_with 58 (skip continues_scheme inside)) (front-is continues_scheme inside)
       ∙ ap (λ v. v && begins_with 58 (skip continues_scheme inside)) (scheme-of inside (length inside - length (skip continues_scheme inside)) (omega arith))
 
   module _ (rest : List ℕ) (left : rest ≡ skip continues_scheme inside) where
-    absolute-at : is_absolute inside ≡ (is_letter (get_or inside 0 0) && within 2 32 (length inside - length rest) && begins_with 58 rest)
-    absolute-at = absolute-is ∙ ap (λ t. is_letter (get_or inside 0 0) && within 2 32 (length inside - length t) && begins_with 58 t) (sym left)
+    absolute-at : is_absolute inside ≡ (is_ascii_alphabetic (get_or inside 0 0) && is_in_range 2 32 (length inside - length rest) && begins_with 58 rest)
+    absolute-at = absolute-is ∙ ap (λ t. is_ascii_alphabetic (get_or inside 0 0) && is_in_range 2 32 (length inside - length t) && begins_with 58 t) (sym left)
 
     pub absolute-size : length rest ≤ length inside
     absolute-size = omega (arith, ap length left, skip_shorter continues_scheme inside)
 
-    pub absolute-other : within 2 32 (length inside - length rest) ≡ false → false ≡ is_absolute inside
+    pub absolute-other : is_in_range 2 32 (length inside - length rest) ≡ false → false ≡ is_absolute inside
     absolute-other h = sym (absolute-at ∙ grind (arith, h))
 
-    pub absolute-letter : within 2 32 (length inside - length rest) ≡ true → is_letter (get_or inside 0 0) ≡ true → begins_with 58 rest ≡ is_absolute inside
+    pub absolute-letter : is_in_range 2 32 (length inside - length rest) ≡ true → is_ascii_alphabetic (get_or inside 0 0) ≡ true → begins_with 58 rest ≡ is_absolute inside
     absolute-letter h k = sym (absolute-at ∙ grind (arith, h, k))
 
-    pub absolute-no_letter : is_letter (get_or inside 0 0) ≡ false → false ≡ is_absolute inside
+    pub absolute-no_letter : is_ascii_alphabetic (get_or inside 0 0) ≡ false → false ≡ is_absolute inside
     absolute-no_letter k = sym (absolute-at ∙ grind (arith, k))
 
 -- an e-mail address
@@ -203,19 +204,13 @@ module _ (inside rest : List ℕ) (left : rest ≡ skip stands_in_address inside
 -- the labels of a host, one after another
 
 label-more : (b : ℕ) (bs : List ℕ) → (b == 46) ≡ false → labels (b ∷ bs) ≡ onto_first b (labels bs)
-unfolding labels
-label-more b bs h = ap (λ c. elim c as (λ _. List (List ℕ)) [ true ↦ [] ∷ labels bs | false ↦ onto_first b (labels bs) ]) h
+label-more b bs h = ap (λ c. cond c ([] ∷ labels bs) (onto_first b (labels bs))) h
 
 label-dot : (b : ℕ) (bs : List ℕ) → (b == 46) ≡ true → labels (b ∷ bs) ≡ [] ∷ labels bs
-unfolding labels
-label-dot b bs h = ap (λ c. elim c as (λ _. List (List ℕ)) [ true ↦ [] ∷ labels bs | false ↦ onto_first b (labels bs) ]) h
-
-labels-nothing : labels [] ≡ [] ∷ []
-unfolding labels
-labels-nothing = refl
+label-dot b bs h = ap (λ c. cond c ([] ∷ labels bs) (onto_first b (labels bs))) h
 
 no-dot : (bs : List ℕ) → IsFirstByte (is_byte 46) bs None → labels bs ≡ bs ∷ []
-no-dot [] none = labels-nothing
+no-dot [] none = refl
 no-dot (b ∷ bs) none =
     label-more b bs (is-false (b == 46) (none 0 (omega arith) (omega arith)))
     ∙ ap (onto_first b) (no-dot bs (λ k low high. none (suc k) (omega arith) (omega (arith, high))))
@@ -255,7 +250,7 @@ begins-first : (c : ℕ) (bs : List ℕ) → 0 < length bs → begins_with c bs 
 begins-first c [] some = absurd (omega (arith, some))
 begins-first c (b ∷ bs) some = refl
 
-pub label-size : (label : List ℕ) → within 1 63 (length label) ≡ false → false ≡ is_host_label label
+pub label-size : (label : List ℕ) → is_in_range 1 63 (length label) ≡ false → false ≡ is_host_label label
 unfolding is_host_label
 label-size label h = grind (arith, h)
 
@@ -263,7 +258,7 @@ pub label-hyphen : (label : List ℕ) → 0 < length label → (get_or label 0 0
 unfolding is_host_label
 label-hyphen label some h = grind (arith, h, begins-first 45 label some, ends-at 45 label some)
 
-pub label-bytes : (label : List ℕ) → 0 < length label → within 1 63 (length label) ≡ true → (get_or label 0 0 == 45) ≡ false → (get_or label (length label - 1) 0 == 45) ≡ false
+pub label-bytes : (label : List ℕ) → 0 < length label → is_in_range 1 63 (length label) ≡ true → (get_or label 0 0 == 45) ≡ false → (get_or label (length label - 1) 0 == 45) ≡ false
     → list_all is_host_byte label ≡ is_host_label label
 unfolding is_host_label
 label-bytes label some few first last = grind (arith, few, first, last, begins-first 45 label some, ends-at 45 label some)

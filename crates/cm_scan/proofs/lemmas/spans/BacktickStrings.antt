@@ -5,8 +5,8 @@ use Rattle.std.specs.List.{slice_range}
 use Rattle.std.proofs.lemmas.List.{append-nil, drop_all}
 use Rattle.std.proofs.lemmas.Bool.{eqb-true}
 use Rattle.cm_scan.specs.Words.{run_length, after_run}
-use Rattle.cm_scan.specs.inlines.Links.{Reading, behind}
-use Rattle.cm_scan.specs.spans.CodeSpans.{up_to_run, span_content, as_written, spanned_as_written, code_span}
+use Rattle.cm_scan.specs.inlines.Links.{Reading, beyond}
+use Rattle.cm_scan.specs.spans.CodeSpans.{up_to_run, as_written, spanned_as_written, code_span, span_content}
 use Rattle.cm_scan.specs.steps.SpanSteps.{run_at}
 use Rattle.cm_scan.proofs.lemmas.texts.WordsGoOn.{none-some}
 use Rattle.cm_scan.proofs.lemmas.links.BracketedParts.{ahead, ahead_from, slice-none}
@@ -17,9 +17,9 @@ ahead-nothing : (o : Option Reading) → ahead [] o ≡ o
 ahead-nothing None = refl
 ahead-nothing (Some r) = refl
 
-behind-ahead : (b : ℕ) (front : List ℕ) (o : Option Reading) → behind b (ahead front o) ≡ ahead (b ∷ front) o
-behind-ahead b front None = refl
-behind-ahead b front (Some r) = refl
+beyond-ahead : (b : ℕ) (front : List ℕ) (o : Option Reading) → beyond b (ahead front o) ≡ ahead (b ∷ front) o
+beyond-ahead b front None = refl
+beyond-ahead b front (Some r) = refl
 
 ahead-ahead : (front more : List ℕ) (o : Option Reading) → ahead front (ahead more o) ≡ ahead (front ++ more) o
 ahead-ahead front more None = refl
@@ -53,13 +53,13 @@ nowhere text bytes at same h = λ k below e. subst (λ t. IsFirstByte (is_byte 9
 
 module _ (n : ℕ) where
   -- a byte where no run starts
-  passed : (in_run : Bool) (b : ℕ) (bs : List ℕ) → (b == 96 && not in_run && run_length 96 (b ∷ bs) == n) ≡ false → up_to_run n in_run (b ∷ bs) ≡ behind b (up_to_run n (b == 96) bs)
+  passed : (in_run : Bool) (b : ℕ) (bs : List ℕ) → (b == 96 && not in_run && run_length 96 (b ∷ bs) == n) ≡ false → up_to_run n in_run (b ∷ bs) ≡ beyond b (up_to_run n (b == 96) bs)
   unfolding up_to_run
-  passed in_run b bs h = ap (λ c. elim c as (λ _. Option Reading) [ true ↦ Some (record { text = []; rest = after_run 96 (b ∷ bs) }) | false ↦ behind b (up_to_run n (b == 96) bs) ]) h
+  passed in_run b bs h = ap (λ c. elim c as (λ _. Option Reading) [ true ↦ Some (record { text = []; rest = after_run 96 (b ∷ bs) }) | false ↦ beyond b (up_to_run n (b == 96) bs) ]) h
 
-  plain-passed : (in_run : Bool) (b : ℕ) (bs : List ℕ) → (b == 96) ≡ false → up_to_run n in_run (b ∷ bs) ≡ behind b (up_to_run n false bs)
+  plain-passed : (in_run : Bool) (b : ℕ) (bs : List ℕ) → (b == 96) ≡ false → up_to_run n in_run (b ∷ bs) ≡ beyond b (up_to_run n false bs)
   plain-passed in_run b bs h =
-      passed in_run b bs (ap (λ c. c && not in_run && run_length 96 (b ∷ bs) == n) h) ∙ ap (λ c. behind b (up_to_run n c bs)) h
+      passed in_run b bs (ap (λ c. c && not in_run && run_length 96 (b ∷ bs) == n) h) ∙ ap (λ c. beyond b (up_to_run n c bs)) h
 
   in-run : (c d : Bool) → (c && not true && d) ≡ false
   in-run true d = refl
@@ -71,8 +71,8 @@ module _ (n : ℕ) where
   plain-run [] (suc i) within none = absurd (omega (arith, within))
   plain-run (b ∷ bs) (suc i) within none =
       plain-passed false b bs (not-same b 96 (none 0 (omega arith)))
-      ∙ ap (behind b) (plain-run bs i (omega (arith, within)) (λ k below. none (suc k) (omega (arith, below))))
-      ∙ behind-ahead b (take i bs) (up_to_run n false (drop i bs))
+      ∙ ap (beyond b) (plain-run bs i (omega (arith, within)) (λ k below. none (suc k) (omega (arith, below))))
+      ∙ beyond-ahead b (take i bs) (up_to_run n false (drop i bs))
 
   nothing : up_to_run n false [] ≡ None
   unfolding up_to_run
@@ -90,9 +90,9 @@ module _ (n : ℕ) where
   rest-of-run (b ∷ bs) = passed true b bs (in-run (b == 96) (run_length 96 (b ∷ bs) == n)) ∙ go (b == 96) refl (rest-of-run bs)
     where
       go : (c : Bool) → (b == 96) ≡ c → up_to_run n true bs ≡ ahead (take (run_length 96 bs) bs) (up_to_run n false (after_run 96 bs))
-          → behind b (up_to_run n c bs) ≡ ahead (take (elim c as (λ _. ℕ) [ true ↦ suc (run_length 96 bs) | false ↦ 0 ]) (b ∷ bs))
+          → beyond b (up_to_run n c bs) ≡ ahead (take (elim c as (λ _. ℕ) [ true ↦ suc (run_length 96 bs) | false ↦ 0 ]) (b ∷ bs))
           (up_to_run n false (elim c as (λ _. List ℕ) [ true ↦ after_run 96 bs | false ↦ b ∷ bs ]))
-      go true h k = ap (behind b) k ∙ behind-ahead b (take (run_length 96 bs) bs) (up_to_run n false (after_run 96 bs))
+      go true h k = ap (beyond b) k ∙ beyond-ahead b (take (run_length 96 bs) bs) (up_to_run n false (after_run 96 bs))
       go false h k = sym (ahead-nothing (up_to_run n false (b ∷ bs)) ∙ plain-passed false b bs h)
 
   -- a run of another length
@@ -101,8 +101,8 @@ module _ (n : ℕ) where
   unfolding run_length after_run
   other-run b bs same other =
       passed false b bs (ap (λ d. b == 96 && true && d) (not-same (run_length 96 (b ∷ bs)) n other) ∙ last (b == 96))
-      ∙ ap (λ c. behind b (up_to_run n c bs)) backtick ∙ ap (behind b) (rest-of-run bs)
-      ∙ behind-ahead b (take (run_length 96 bs) bs) (up_to_run n false (after_run 96 bs))
+      ∙ ap (λ c. beyond b (up_to_run n c bs)) backtick ∙ ap (beyond b) (rest-of-run bs)
+      ∙ beyond-ahead b (take (run_length 96 bs) bs) (up_to_run n false (after_run 96 bs))
       ∙ sym (ap (λ c. ahead (take (elim c as (λ _. ℕ) [ true ↦ suc (run_length 96 bs) | false ↦ 0 ]) (b ∷ bs))
       (up_to_run n false (elim c as (λ _. List ℕ) [ true ↦ after_run 96 bs | false ↦ b ∷ bs ]))) backtick)
     where
@@ -117,7 +117,7 @@ module _ (n : ℕ) where
   this-run : (b : ℕ) (bs : List ℕ) → b ≡ 96 → run_length 96 (b ∷ bs) ≡ n → up_to_run n false (b ∷ bs) ≡ Some (record { text = []; rest = after_run 96 (b ∷ bs) })
   unfolding up_to_run
   this-run b bs same length_is =
-      ap (λ c. elim c as (λ _. Option Reading) [ true ↦ Some (record { text = []; rest = after_run 96 (b ∷ bs) }) | false ↦ behind b (up_to_run n (b == 96) bs) ])
+      ap (λ c. elim c as (λ _. Option Reading) [ true ↦ Some (record { text = []; rest = after_run 96 (b ∷ bs) }) | false ↦ beyond b (up_to_run n (b == 96) bs) ])
       (ap (λ c. c && true && run_length 96 (b ∷ bs) == n) (eq-eqb b 96 same) ∙ eq-eqb (run_length 96 (b ∷ bs)) n length_is)
 
   -- the same by places in a text
@@ -181,31 +181,31 @@ module _ (n : ℕ) where
 
   -- where no run is found, none is found further on
 
-  behind-none : (b : ℕ) (o : Option Reading) → behind b o ≡ None → o ≡ None
-  behind-none b None h = refl
-  behind-none b (Some r) h = none-some (sym h)
+  beyond-none : (b : ℕ) (o : Option Reading) → beyond b o ≡ None → o ≡ None
+  beyond-none b None h = refl
+  beyond-none b (Some r) h = none-some (sym h)
 
   one-further : (in_run : Bool) (b : ℕ) (bs : List ℕ) → up_to_run n in_run (b ∷ bs) ≡ None → up_to_run n (b == 96) bs ≡ None
   unfolding up_to_run
   one-further in_run b bs h = go (b == 96 && not in_run && run_length 96 (b ∷ bs) == n) h
     where
-      go : (c : Bool) → elim c as (λ _. Option Reading) [ true ↦ Some (record { text = []; rest = after_run 96 (b ∷ bs) }) | false ↦ behind b (up_to_run n (b == 96) bs) ] ≡ None
+      go : (c : Bool) → elim c as (λ _. Option Reading) [ true ↦ Some (record { text = []; rest = after_run 96 (b ∷ bs) }) | false ↦ beyond b (up_to_run n (b == 96) bs) ] ≡ None
           → up_to_run n (b == 96) bs ≡ None
       go true e = none-some (sym e)
-      go false e = behind-none b (up_to_run n (b == 96) bs) e
+      go false e = beyond-none b (up_to_run n (b == 96) bs) e
 
-  behind-run : (in_run : Bool) (bs : List ℕ) → up_to_run n in_run bs ≡ None → up_to_run n false (after_run 96 bs) ≡ None
+  beyond-run : (in_run : Bool) (bs : List ℕ) → up_to_run n in_run bs ≡ None → up_to_run n false (after_run 96 bs) ≡ None
   unfolding after_run
-  behind-run in_run [] h = nothing
-  behind-run in_run (b ∷ bs) h = go (b == 96) refl (behind-run (b == 96) bs (one-further in_run b bs h))
+  beyond-run in_run [] h = nothing
+  beyond-run in_run (b ∷ bs) h = go (b == 96) refl (beyond-run (b == 96) bs (one-further in_run b bs h))
     where
       go : (c : Bool) → (b == 96) ≡ c → up_to_run n false (after_run 96 bs) ≡ None → up_to_run n false (elim c as (λ _. List ℕ) [ true ↦ after_run 96 bs | false ↦ b ∷ bs ]) ≡ None
       go true e k = k
       go false e k = plain-passed false b bs e ∙ sym (plain-passed in_run b bs e) ∙ h
 
   further-none : (in_run : Bool) (bs : List ℕ) (k : ℕ) → up_to_run n in_run bs ≡ None → up_to_run n false (after_run 96 (drop k bs)) ≡ None
-  further-none in_run bs zero h = behind-run in_run bs h
-  further-none in_run [] (suc k) h = behind-run in_run [] h
+  further-none in_run bs zero h = beyond-run in_run bs h
+  further-none in_run [] (suc k) h = beyond-run in_run [] h
   further-none in_run (b ∷ bs) (suc k) h = further-none (b == 96) bs k (one-further in_run b bs h)
 
 written-none : (n : ℕ) (bs : List ℕ) → up_to_run n false bs ≡ None → as_written n bs ≡ None
@@ -235,10 +235,10 @@ after-twice (b ∷ bs) = go (b == 96) refl (after-twice bs)
     go false e k = ap (λ c. elim c as (λ _. List ℕ) [ true ↦ after_run 96 bs | false ↦ b ∷ bs ]) e
 
 -- where no run is found from a place before a backtick string's end, the string starts no code span
-pub none-behind : (n : ℕ) (text : List ℕ) (from at start : ℕ) → start ≡ at + n → run_length 96 (drop at text) ≡ n → from ≤ start → up_to_run n false (drop from text) ≡ None
+pub none-beyond : (n : ℕ) (text : List ℕ) (from at start : ℕ) → start ≡ at + n → run_length 96 (drop at text) ≡ n → from ≤ start → up_to_run n false (drop from text) ≡ None
     → spanned_as_written (drop at text) ≡ None
 unfolding spanned_as_written
-none-behind n text from at start place same low h =
+none-beyond n text from at start place same low h =
     let left = sym (after-drop (drop at text)) ∙ ap (λ k. drop k (drop at text)) same ∙ drop-drop n at text ∙ ap (λ k. drop k text) (sym place) in
     ap (λ m. as_written m (after_run 96 (drop at text))) same
     ∙ written-none n (after_run 96 (drop at text))

@@ -1,9 +1,10 @@
 -- Code spans with more text after.
 use Rattle.std.proofs.Common.{◌≡◌, ℕ, zero, suc, Bool, true, false, not, ◌==◌, ◌&&◌, List, [], ◌∷◌, ◌++◌, Option, Some, None, refl, sym, ap, ◌∙◌}
 use Rattle.cm_scan.specs.Words.{is_empty, run_length, after_run}
-use Rattle.cm_scan.specs.inlines.Links.{Reading, behind}
-use Rattle.cm_scan.specs.spans.CodeSpans.{up_to_run, one_line, stripped, span_content, spanned, code_span}
+use Rattle.cm_scan.specs.inlines.Links.{Reading, beyond}
+use Rattle.cm_scan.specs.spans.CodeSpans.{up_to_run, one_line, stripped, code_span, span_content}
 use Rattle.cm_scan.specs.laws.SpanLaws.{keeps_run, CodeSpanGoesOn}
+use Rattle.cm_scan.specs.steps.SpanSteps.{spanned}
 use Rattle.cm_scan.proofs.lemmas.texts.WordsGoOn.{longer, false-true, none-some}
 
 reading_of : Reading → Option Reading → Reading
@@ -52,9 +53,9 @@ no-run n [] e = refl
 no-run n (b ∷ bs) e = go (b == 96) (run_length 96 (b ∷ bs) == n) e (λ h. no-run n bs h)
   where
     go : (c d : Bool) → is_empty (elim c as (λ _. List ℕ) [ true ↦ after_run 96 bs | false ↦ b ∷ bs ]) ≡ true → (is_empty (after_run 96 bs) ≡ true → up_to_run n true bs ≡ None)
-        → elim (c && false && d) as (λ _. Option Reading) [ true ↦ Some (record { text = []; rest = after_run 96 (b ∷ bs) }) | false ↦ behind b (up_to_run n c bs) ] ≡ None
+        → elim (c && false && d) as (λ _. Option Reading) [ true ↦ Some (record { text = []; rest = after_run 96 (b ∷ bs) }) | false ↦ beyond b (up_to_run n c bs) ] ≡ None
     go false d e k = false-true e
-    go true d e k = ap (behind b) (k e)
+    go true d e k = ap (beyond b) (k e)
 
 -- so after a run in which one is found something is left
 run-ends : (n : ℕ) (text : List ℕ) (r : Reading) → up_to_run n true text ≡ Some r → is_empty (after_run 96 text) ≡ false
@@ -79,22 +80,22 @@ up_to_run-extends n in_run [] x r e h = none-some e
 up_to_run-extends n in_run (b ∷ bs) x r e h = go (b == 96) in_run (run_length 96 (b ∷ bs) == n) refl refl e (λ s f g. up_to_run-extends n (b == 96) bs x s f g)
   where
     by : List ℕ → Bool → Bool → Bool → Option Reading
-    by t c d f = elim (c && not d && f) as (λ _. Option Reading) [ true ↦ Some (record { text = []; rest = after_run 96 (b ∷ t) }) | false ↦ behind b (up_to_run n c t) ]
+    by t c d f = elim (c && not d && f) as (λ _. Option Reading) [ true ↦ Some (record { text = []; rest = after_run 96 (b ∷ t) }) | false ↦ beyond b (up_to_run n c t) ]
 
     same_run : keeps_run (after_run 96 (b ∷ bs)) x ≡ true → (run_length 96 (b ∷ (bs ++ x)) == n) ≡ (run_length 96 (b ∷ bs) == n)
     same_run k = ap (λ m. m == n) (run-grows (b ∷ bs) x k)
 
-    further : (c : Bool) → (b == 96) ≡ c → behind b (up_to_run n c bs) ≡ Some r
+    further : (c : Bool) → (b == 96) ≡ c → beyond b (up_to_run n c bs) ≡ Some r
         → ((s : Reading) → up_to_run n (b == 96) bs ≡ Some s → keeps_run s.rest x ≡ true → up_to_run n (b == 96) (bs ++ x) ≡ Some (longer s x))
-        → behind b (up_to_run n c (bs ++ x)) ≡ Some (longer r x)
+        → beyond b (up_to_run n c (bs ++ x)) ≡ Some (longer r x)
     further c p e k = found (up_to_run n c bs) refl e
       where
-        found : (o : Option Reading) → up_to_run n c bs ≡ o → behind b o ≡ Some r → behind b (up_to_run n c (bs ++ x)) ≡ Some (longer r x)
+        found : (o : Option Reading) → up_to_run n c bs ≡ o → beyond b o ≡ Some r → beyond b (up_to_run n c (bs ++ x)) ≡ Some (longer r x)
         found None q e = none-some e
         found (Some s) q e =
             let same : record { text = b ∷ s.text; rest = s.rest } ≡ r = same-reading (record { text = b ∷ s.text; rest = s.rest }) r e in
-            ap (λ v. behind b (up_to_run n v (bs ++ x))) (sym p)
-            ∙ ap (behind b) (k s (ap (λ v. up_to_run n v bs) p ∙ q) (ap (λ (t : Reading). keeps_run t.rest x) same ∙ h))
+            ap (λ v. beyond b (up_to_run n v (bs ++ x))) (sym p)
+            ∙ ap (beyond b) (k s (ap (λ v. up_to_run n v bs) p ∙ q) (ap (λ (t : Reading). keeps_run t.rest x) same ∙ h))
             ∙ ap (λ (t : Reading). Some (longer t x)) same
 
     go : (c d f : Bool) → (b == 96) ≡ c → (run_length 96 (b ∷ bs) == n) ≡ f → by bs c d f ≡ Some r
@@ -112,7 +113,7 @@ up_to_run-extends n in_run (b ∷ bs) x r e h = go (b == 96) in_run (run_length 
         ap (by (bs ++ x) true false) (same_run (left-keeps (after_run 96 (b ∷ bs)) x (run_further (up_to_run n true bs) refl e)) ∙ q)
         ∙ further true p e k
       where
-        run_further : (o : Option Reading) → up_to_run n true bs ≡ o → behind b o ≡ Some r → is_empty (after_run 96 (b ∷ bs)) ≡ false
+        run_further : (o : Option Reading) → up_to_run n true bs ≡ o → beyond b o ≡ Some r → is_empty (after_run 96 (b ∷ bs)) ≡ false
         run_further None g e = none-some e
         run_further (Some s) g e = ap is_empty (first-of-run b bs p) ∙ run-ends n bs s g
 

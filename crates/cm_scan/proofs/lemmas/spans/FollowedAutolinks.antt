@@ -1,8 +1,10 @@
 -- Autolinks whose address the rules follow.
-use Rattle.std.proofs.Common.{◌≡◌, ℕ, Bool, true, false, ◌||◌, List, ◌++◌, Option, Some, None, codes, refl, sym, ap, ◌∙◌}
+use Rattle.std.proofs.Common.{◌≡◌, ℕ, Bool, true, false, ◌||◌, List, ◌++◌, Some, None, codes, refl, sym, ap, ◌∙◌}
+use Rattle.cm_scan.specs.Words.{given}
 use Rattle.cm_text.specs.Rules.{Rules}
 use Rattle.cm_text.specs.Addresses.{address_scheme, is_followed}
-use Rattle.cm_scan.specs.spans.Autolinks.{Autolink, autolink, link_if_followed, followed_autolink}
+use Rattle.cm_scan.specs.spans.Autolinks.{Autolink, autolink, followed_autolink}
+use Rattle.cm_scan.specs.steps.SpanSteps.{link_if_followed}
 
 or-true : (t : Bool) → (t || true) ≡ true
 or-true true = refl
@@ -14,9 +16,6 @@ unfolding address_scheme
 mail-followed rules text = or-true rules.any_address
 
 module _ (rules : Rules) (text : List ℕ) where
-  abbrev judged : Autolink → Bool → Option Autolink
-  judged link t = elim t as (λ _. Option Autolink) [ true ↦ Some link | false ↦ None ]
-
   pub none-followed : autolink text ≡ None → None ≡ followed_autolink rules text
   unfolding followed_autolink
   none-followed e = sym (ap (link_if_followed rules) e)
@@ -24,8 +23,8 @@ module _ (rules : Rules) (text : List ℕ) where
   module _ (link : Autolink) (found : autolink text ≡ Some link) where
     pub link-followed : is_followed rules link.destination ≡ true → Some link ≡ followed_autolink rules text
     unfolding followed_autolink
-    link-followed e = sym (ap (link_if_followed rules) found ∙ ap (judged link) e)
+    link-followed e = sym (ap (link_if_followed rules) found ∙ ap (λ t. given t link) e)
 
     pub link-not-followed : is_followed rules link.destination ≡ false → None ≡ followed_autolink rules text
     unfolding followed_autolink
-    link-not-followed e = sym (ap (link_if_followed rules) found ∙ ap (judged link) e)
+    link-not-followed e = sym (ap (link_if_followed rules) found ∙ ap (λ t. given t link) e)

@@ -2,15 +2,17 @@
 use Rattle.std.proofs.Common.{◌≡◌, ℕ, suc, ◌+◌, ◌-◌, ◌<◌, ◌≤◌, true, false, List, [], ◌∷◌, ◌++◌, length, take, drop, get_or, Option, Some, None, codes, IsUtf8, refl, sym, ap, subst, ◌∙◌, arith, drop-drop, get_or-drop, length-drop, length-append}
 use Rattle.std.specs.List.{slice_range}
 use Rattle.std.specs.Str.{IsCharBoundary}
+use Rattle.std.specs.Char.{is_ascii_alphabetic}
 use Rattle.std.proofs.Math.Seq.{drop-append_seam}
 use Rattle.std.proofs.lemmas.Str.{IsCharBoundary-after_ascii}
 use Rattle.cm_text.specs.Rules.{Rules}
-use Rattle.cm_scan.specs.Words.{is_letter, after_word, ◌<|>◌}
+use Rattle.cm_scan.specs.Words.{after_word, ◌<|>◌}
 use Rattle.cm_scan.specs.spans.Tags.{tag_name, open_tag, closing_tag}
 use Rattle.cm_scan.specs.inlines.Links.{Reading}
-use Rattle.cm_scan.specs.spans.RawHtml.{behind_tag, behind_word, from_to, short_end, after_comment, comment, after_declaration, declaration, html_tag, raw_html}
+use Rattle.cm_scan.specs.spans.RawHtml.{beyond_word, from_to, short_end, after_comment, comment, after_declaration, declaration, html_tag, raw_html}
 use Rattle.cm_scan.specs.spans.Angles.{before}
 use Rattle.cm_scan.specs.Scanned.{whole_of}
+use Rattle.cm_scan.specs.steps.SpanSteps.{after_tag}
 use Rattle.cm_scan.proofs.lemmas.spans.RawHtmlGoesOn.{word-front}
 use Rattle.cm_scan.proofs.lemmas.texts.EndsOfTexts.{IsEnd}
 use Rattle.cm_scan.proofs.lemmas.spans.RawHtmlEnds.{raw_html-ends}
@@ -35,18 +37,18 @@ module _ (inside : List ℕ) where
 
     pub comment-short : Some rest ≡ after_comment false inside
     unfolding after_comment
-    comment-short = ap (λ o. o <|> behind_word (codes "-->") inside) short
+    comment-short = ap (λ o. o <|> beyond_word (codes "-->") inside) short
 
   module _ (long : None ≡ short_end inside) where
-    pub comment-long : behind_word (codes "-->") inside ≡ after_comment false inside
+    pub comment-long : beyond_word (codes "-->") inside ≡ after_comment false inside
     unfolding after_comment
-    comment-long = ap (λ o. o <|> behind_word (codes "-->") inside) long
+    comment-long = ap (λ o. o <|> beyond_word (codes "-->") inside) long
 
-    pub comment-open : None ≡ behind_word (codes "--") inside → None ≡ after_comment true inside
+    pub comment-open : None ≡ beyond_word (codes "--") inside → None ≡ after_comment true inside
     unfolding after_comment
     comment-open h = grind (arith, long, h)
 
-    pub comment-strict : (rest : List ℕ) → Some rest ≡ behind_word (codes "--") inside → after_word (codes ">") rest ≡ after_comment true inside
+    pub comment-strict : (rest : List ℕ) → Some rest ≡ beyond_word (codes "--") inside → after_word (codes ">") rest ≡ after_comment true inside
     unfolding after_comment
     comment-strict rest h = grind (arith, long, h)
 
@@ -56,11 +58,11 @@ pub declaration-none : None ≡ after_declaration []
 unfolding after_declaration
 declaration-none = refl
 
-pub declaration-other : (b : ℕ) (bs : List ℕ) → is_letter b ≡ false → None ≡ after_declaration (b ∷ bs)
+pub declaration-other : (b : ℕ) (bs : List ℕ) → is_ascii_alphabetic b ≡ false → None ≡ after_declaration (b ∷ bs)
 unfolding after_declaration
 declaration-other b bs h = grind (arith, h)
 
-pub declaration-letter : (b : ℕ) (bs : List ℕ) → is_letter b ≡ true → behind_word (codes ">") bs ≡ after_declaration (b ∷ bs)
+pub declaration-letter : (b : ℕ) (bs : List ℕ) → is_ascii_alphabetic b ≡ true → beyond_word (codes ">") bs ≡ after_declaration (b ∷ bs)
 unfolding after_declaration
 declaration-letter b bs h = grind (arith, h)
 
@@ -75,7 +77,7 @@ module _ (rules : Rules) where
   unfolding html_tag open_tag closing_tag comment from_to declaration after_declaration after_word tag_name
   mark-dashes inside = refl
 
-  mark-bracket : (inside : List ℕ) → html_tag rules (60 ∷ 33 ∷ (codes "[CDATA[" ++ inside)) ≡ behind_word (codes "]]>") inside
+  mark-bracket : (inside : List ℕ) → html_tag rules (60 ∷ 33 ∷ (codes "[CDATA[" ++ inside)) ≡ beyond_word (codes "]]>") inside
   unfolding html_tag open_tag closing_tag comment from_to declaration after_declaration after_word tag_name
   mark-bracket inside = refl
 
@@ -84,11 +86,11 @@ module _ (rules : Rules) where
     mark-comment rest h =
         sym (ap (λ t. html_tag rules (60 ∷ 33 ∷ t)) (word-front (codes "--") inside rest (sym h)) ∙ mark-dashes rest ∙ first-alone (after_comment rules.older rest))
 
-    pub mark-section : (rest : List ℕ) → Some rest ≡ after_word (codes "[CDATA[") inside → behind_word (codes "]]>") rest ≡ html_tag rules (60 ∷ 33 ∷ inside)
+    pub mark-section : (rest : List ℕ) → Some rest ≡ after_word (codes "[CDATA[") inside → beyond_word (codes "]]>") rest ≡ html_tag rules (60 ∷ 33 ∷ inside)
     mark-section rest h = sym (ap (λ t. html_tag rules (60 ∷ 33 ∷ t)) (word-front (codes "[CDATA[") inside rest (sym h)) ∙ mark-bracket rest)
 
     abbrev ended : Option (List ℕ) → Option (List ℕ)
-    ended o = elim o as (λ _. Option (List ℕ)) [ Some t ↦ behind_word (codes "]]>") t | None ↦ None ]
+    ended o = elim o as (λ _. Option (List ℕ)) [ Some t ↦ beyond_word (codes "]]>") t | None ↦ None ]
 
     abbrev commented : Option (List ℕ) → Option (List ℕ)
     commented o = elim o as (λ _. Option (List ℕ)) [ Some t ↦ after_comment rules.older t | None ↦ None ]
@@ -116,20 +118,20 @@ module _ (rules : Rules) where
   unfolding html_tag open_tag closing_tag comment from_to declaration after_word tag_name
   html-end = refl
 
-  pub html-instruction : (behind : List ℕ) → behind_word (codes "?>") behind ≡ html_tag rules (60 ∷ 63 ∷ behind)
+  pub html-instruction : (beyond : List ℕ) → beyond_word (codes "?>") beyond ≡ html_tag rules (60 ∷ 63 ∷ beyond)
   unfolding html_tag open_tag closing_tag comment from_to declaration after_word tag_name
-  html-instruction behind = sym (first-alone (behind_word (codes "?>") behind))
+  html-instruction beyond = sym (first-alone (beyond_word (codes "?>") beyond))
 
-  pub html-closing : (behind : List ℕ) → behind_tag (closing_tag (60 ∷ 47 ∷ behind)) ≡ html_tag rules (60 ∷ 47 ∷ behind)
+  pub html-closing : (beyond : List ℕ) → after_tag (closing_tag (60 ∷ 47 ∷ beyond)) ≡ html_tag rules (60 ∷ 47 ∷ beyond)
   unfolding html_tag open_tag comment from_to declaration after_word tag_name
-  html-closing behind = sym (first-alone (behind_tag (closing_tag (60 ∷ 47 ∷ behind))))
+  html-closing beyond = sym (first-alone (after_tag (closing_tag (60 ∷ 47 ∷ beyond))))
 
-  html-alone : (c : ℕ) (behind : List ℕ) → (c ≡ 33 → ⊥) → (c ≡ 63 → ⊥) → (c ≡ 47 → ⊥) → html_tag rules (60 ∷ c ∷ behind) ≡ behind_tag (open_tag (60 ∷ c ∷ behind)) <|> None
+  html-alone : (c : ℕ) (beyond : List ℕ) → (c ≡ 33 → ⊥) → (c ≡ 63 → ⊥) → (c ≡ 47 → ⊥) → html_tag rules (60 ∷ c ∷ beyond) ≡ after_tag (open_tag (60 ∷ c ∷ beyond)) <|> None
   unfolding html_tag closing_tag comment from_to declaration after_word
-  html-alone c behind h k l = grind (arith, h, k, l)
+  html-alone c beyond h k l = grind (arith, h, k, l)
 
-  pub html-open : (c : ℕ) (behind : List ℕ) → (c ≡ 33 → ⊥) → (c ≡ 63 → ⊥) → (c ≡ 47 → ⊥) → behind_tag (open_tag (60 ∷ c ∷ behind)) ≡ html_tag rules (60 ∷ c ∷ behind)
-  html-open c behind h k l = sym (html-alone c behind h k l ∙ first-alone (behind_tag (open_tag (60 ∷ c ∷ behind))))
+  pub html-open : (c : ℕ) (beyond : List ℕ) → (c ≡ 33 → ⊥) → (c ≡ 63 → ⊥) → (c ≡ 47 → ⊥) → after_tag (open_tag (60 ∷ c ∷ beyond)) ≡ html_tag rules (60 ∷ c ∷ beyond)
+  html-open c beyond h k l = sym (html-alone c beyond h k l ∙ first-alone (after_tag (open_tag (60 ∷ c ∷ beyond))))
 
 -- the whole of it, by what is left
 
@@ -142,7 +144,7 @@ get_or-seam (b ∷ bs) rest = get_or-seam bs rest
 
 -- where what is left starts
 pub record Cut (text : List ℕ) (at : ℕ) (rest : List ℕ) : Type 0 where
-  pub behind : drop (length text - length rest) text ≡ rest
+  pub beyond : drop (length text - length rest) text ≡ rest
   pub low : at < length text - length rest
   pub high : length rest < length text
   pub bracket : get_or text (length text - length rest - 1) 0 ≡ 62
@@ -154,7 +156,7 @@ cut-at text at rest within ends =
     let place : length text - length rest - 1 ≡ at + length ends.front = omega (arith, size) in
     let next : length text - length rest ≡ at + (length ends.front + 1) = omega (arith, size) in
     record {
-      behind = ap (λ k. drop k text) next ∙ sym (drop-drop (length ends.front + 1) at text) ∙ ap (drop (length ends.front + 1)) ends.is ∙ drop-past ends.front rest;
+      beyond = ap (λ k. drop k text) next ∙ sym (drop-drop (length ends.front + 1) at text) ∙ ap (drop (length ends.front + 1)) ends.is ∙ drop-past ends.front rest;
       low = omega (arith, size);
       high = omega (arith, size);
       bracket = ap (λ k. get_or text k 0) place ∙ sym (get_or-drop at text (length ends.front) 0) ∙ ap (λ t. get_or t (length ends.front) 0) ends.is ∙ get_or-seam ends.front rest;
@@ -180,7 +182,7 @@ pub whole-some : (rules : Rules) (text part : List ℕ) (at : ℕ) (rest : List 
     → part ≡ slice_range text at (length text - length rest)
     → Some (record { text = part; rest = drop (length text - length rest) text }) ≡ whole_of (drop at text) (raw_html rules (drop at text))
 whole-some rules text part at rest within cut h same =
-    same-reading part (before rest (drop at text)) (drop (length text - length rest) text) rest (part-before text part at rest within same) cut.behind
+    same-reading part (before rest (drop at text)) (drop (length text - length rest) text) rest (part-before text part at rest within same) cut.beyond
     ∙ sym (ap (whole_of (drop at text)) h)
 
 -- it is the boundary of a character

@@ -1,11 +1,13 @@
 -- Raw HTML with more text after.
+use Rattle.std.specs.Char.{is_ascii_alphabetic}
 use Rattle.std.proofs.Common.{◌≡◌, ℕ, ◌≤◌, Bool, true, false, ◌==◌, List, [], ◌∷◌, ◌++◌, length, Option, Some, None, codes, refl, sym, ap, ◌∙◌, arith}
 use Rattle.std.proofs.lemmas.Bool.{eqb-true}
 use Rattle.cm_text.specs.Rules.{Rules}
-use Rattle.cm_scan.specs.Words.{is_letter, after_word, ◌<|>◌}
+use Rattle.cm_scan.specs.Words.{after_word, ◌<|>◌, ◌and_then◌}
 use Rattle.cm_scan.specs.spans.Tags.{Named, tag_name, with_rest, after_gap, open_tag, closing_tag}
-use Rattle.cm_scan.specs.spans.RawHtml.{behind_tag, behind_word, from_to, short_end, after_comment, comment, instruction, after_declaration, declaration, character_data, html_tag, raw_html}
+use Rattle.cm_scan.specs.spans.RawHtml.{beyond_word, from_to, short_end, after_comment, comment, instruction, after_declaration, declaration, character_data, html_tag, raw_html}
 use Rattle.cm_scan.specs.laws.SpanLaws.{RawHtmlGoesOn, WholeRawHtmlGoesOn}
+use Rattle.cm_scan.specs.steps.SpanSteps.{after_tag}
 use Rattle.cm_scan.proofs.lemmas.texts.WordsGoOn.{false-true, none-some, some-same, word-extends, word-other, word-length, past-length, past-extends, from_to-extends}
 use Rattle.cm_scan.proofs.lemmas.spans.TagsGoOn.{longer, open_tag-extends, closing_tag-extends}
 
@@ -35,10 +37,10 @@ after_comment-extends : (older : Bool) (text x rest : List ℕ) → after_commen
 unfolding after_comment
 after_comment-extends false text x rest e = go (short_end text) refl e
   where
-    go : (o : Option (List ℕ)) → short_end text ≡ o → o <|> behind_word (codes "-->") text ≡ Some rest → short_end (text ++ x) <|> behind_word (codes "-->") (text ++ x) ≡ Some (rest ++ x)
-    go (Some r) f e = ap (λ o. o <|> behind_word (codes "-->") (text ++ x)) (short-extends text x r f) ∙ ap (λ t. Some (t ++ x)) (some-same e)
+    go : (o : Option (List ℕ)) → short_end text ≡ o → o <|> beyond_word (codes "-->") text ≡ Some rest → short_end (text ++ x) <|> beyond_word (codes "-->") (text ++ x) ≡ Some (rest ++ x)
+    go (Some r) f e = ap (λ o. o <|> beyond_word (codes "-->") (text ++ x)) (short-extends text x r f) ∙ ap (λ t. Some (t ++ x)) (some-same e)
     go None f e =
-        ap (λ o. o <|> behind_word (codes "-->") (text ++ x)) (short-other text x f (let l : 3 ≤ length text = past-length (codes "-->") text rest e in omega (arith, l)))
+        ap (λ o. o <|> beyond_word (codes "-->") (text ++ x)) (short-other text x f (let l : 3 ≤ length text = past-length (codes "-->") text rest e in omega (arith, l)))
         ∙ past-extends (codes "-->") text x rest e
 after_comment-extends true text x rest e = go (short_end text) refl e
   where
@@ -46,13 +48,13 @@ after_comment-extends true text x rest e = go (short_end text) refl e
     ended o = elim o as (λ _. Option (List ℕ)) [ Some r ↦ after_word (codes ">") r | None ↦ None ]
 
     by : List ℕ → Option (List ℕ) → Option (List ℕ)
-    by t o = elim o as (λ _. Option (List ℕ)) [ Some r ↦ None | None ↦ ended (behind_word (codes "--") t) ]
+    by t o = elim o as (λ _. Option (List ℕ)) [ Some r ↦ None | None ↦ ended (beyond_word (codes "--") t) ]
 
     go : (o : Option (List ℕ)) → short_end text ≡ o → by text o ≡ Some rest → by (text ++ x) (short_end (text ++ x)) ≡ Some (rest ++ x)
     go (Some r) f e = none-some e
-    go None f e = first (behind_word (codes "--") text) refl e
+    go None f e = first (beyond_word (codes "--") text) refl e
       where
-        first : (o : Option (List ℕ)) → behind_word (codes "--") text ≡ o → ended o ≡ Some rest → by (text ++ x) (short_end (text ++ x)) ≡ Some (rest ++ x)
+        first : (o : Option (List ℕ)) → beyond_word (codes "--") text ≡ o → ended o ≡ Some rest → by (text ++ x) (short_end (text ++ x)) ≡ Some (rest ++ x)
         first None g e = none-some e
         first (Some r) g e =
             ap (by (text ++ x)) (short-other text x f (past-length (codes "--") text r g))
@@ -75,10 +77,10 @@ comment-extends older text x rest e = go (after_word (codes "<!--") text) refl e
 after_declaration-extends : (text x rest : List ℕ) → after_declaration text ≡ Some rest → after_declaration (text ++ x) ≡ Some (rest ++ x)
 unfolding after_declaration
 after_declaration-extends [] x rest e = none-some e
-after_declaration-extends (b ∷ bs) x rest e = go (is_letter b) e
+after_declaration-extends (b ∷ bs) x rest e = go (is_ascii_alphabetic b) e
   where
     by : List ℕ → Bool → Option (List ℕ)
-    by t c = elim c as (λ _. Option (List ℕ)) [ true ↦ behind_word (codes ">") t | false ↦ None ]
+    by t c = elim c as (λ _. Option (List ℕ)) [ true ↦ beyond_word (codes ">") t | false ↦ None ]
 
     go : (c : Bool) → by bs c ≡ Some rest → by (bs ++ x) c ≡ Some (rest ++ x)
     go true e = past-extends (codes ">") bs x rest e
@@ -108,7 +110,7 @@ word-front (w ∷ ws) (b ∷ bs) rest e = go (b == w) refl e (λ h. word-front w
     go false f e k = none-some e
 
 module _ (rules : Rules) (inside rest : List ℕ) where
-  closing-alone : behind_tag (closing_tag (60 ∷ 47 ∷ inside)) ≡ Some rest → html_tag rules (60 ∷ 47 ∷ inside) ≡ Some rest
+  closing-alone : after_tag (closing_tag (60 ∷ 47 ∷ inside)) ≡ Some rest → html_tag rules (60 ∷ 47 ∷ inside) ≡ Some rest
   unfolding html_tag open_tag after_word tag_name
   closing-alone e = ap (λ o. o <|> comment rules.older (60 ∷ 47 ∷ inside) <|> instruction (60 ∷ 47 ∷ inside) <|> declaration (60 ∷ 47 ∷ inside) <|> character_data (60 ∷ 47 ∷ inside)) e
 
@@ -129,10 +131,10 @@ unfolding html_tag open_tag closing_tag comment from_to declaration after_declar
 declaration-alone rules [] rest e = none-some e
 declaration-alone rules (b ∷ bs) rest e = go (b == 45) refl
   where
-    letter : is_letter b ≡ true
-    letter = cases (is_letter b) e
+    letter : is_ascii_alphabetic b ≡ true
+    letter = cases (is_ascii_alphabetic b) e
       where
-        cases : (c : Bool) → elim c as (λ _. Option (List ℕ)) [ true ↦ behind_word (codes ">") bs | false ↦ None ] ≡ Some rest → c ≡ true
+        cases : (c : Bool) → elim c as (λ _. Option (List ℕ)) [ true ↦ beyond_word (codes ">") bs | false ↦ None ] ≡ Some rest → c ≡ true
         cases true h = refl
         cases false h = none-some h
 
@@ -141,7 +143,7 @@ declaration-alone rules (b ∷ bs) rest e = go (b == 45) refl
         <|> declaration (60 ∷ 33 ∷ b ∷ bs) <|> character_data (60 ∷ 33 ∷ b ∷ bs)
 
     go : (c : Bool) → (b == 45) ≡ c → by c ≡ Some rest
-    go true f = false-true (sym (ap is_letter (eqb-true b 45 f)) ∙ letter)
+    go true f = false-true (sym (ap is_ascii_alphabetic (eqb-true b 45 f)) ∙ letter)
     go false f = ap (λ o. o <|> character_data (60 ∷ 33 ∷ b ∷ bs)) e
 
 -- a text that has a reading starts with the reading's first word
@@ -160,15 +162,13 @@ module _ (rules : Rules) (text x : List ℕ) where
   unfolding closing_tag
   closing-goes-on tag e = go (after_word (codes "</") text) refl e
     where
-      go : (o : Option (List ℕ)) → after_word (codes "</") text ≡ o → elim o as (λ _. Option Named) [
-        | Some inside ↦ elim (tag_name inside) as (λ _. Option Named) [ Some t ↦ with_rest t.name (after_word (codes ">") (after_gap t.rest)) | None ↦ None ]
-        | None ↦ None
-      ] ≡ Some tag → html_tag rules (text ++ x) ≡ Some (tag.rest ++ x)
+      go : (o : Option (List ℕ)) → after_word (codes "</") text ≡ o → (o and_then λ inside. tag_name inside and_then λ t. with_rest t.name (after_word (codes ">") (after_gap t.rest))) ≡ Some tag
+          → html_tag rules (text ++ x) ≡ Some (tag.rest ++ x)
       go None f h = none-some h
       go (Some inside) f h =
           let front : text ≡ 60 ∷ 47 ∷ inside = word-front (codes "</") text inside f in
           let read : closing_tag (60 ∷ 47 ∷ (inside ++ x)) ≡ Some (longer tag x) = ap (λ t. closing_tag (t ++ x)) (sym front) ∙ closing_tag-extends text x tag e in
-          ap (λ t. html_tag rules (t ++ x)) front ∙ closing-alone rules (inside ++ x) (tag.rest ++ x) (ap behind_tag read)
+          ap (λ t. html_tag rules (t ++ x)) front ∙ closing-alone rules (inside ++ x) (tag.rest ++ x) (ap after_tag read)
 
   module _ (rest : List ℕ) where
     pub comment-goes-on : comment rules.older text ≡ Some rest → html_tag rules (text ++ x) ≡ Some (rest ++ x)
@@ -181,7 +181,7 @@ module _ (rules : Rules) (text x : List ℕ) where
     pub instruction-goes-on : instruction text ≡ Some rest → html_tag rules (text ++ x) ≡ Some (rest ++ x)
     unfolding from_to
     instruction-goes-on e =
-        let front = begun (codes "<?") (behind_word (codes "?>")) text rest e in
+        let front = begun (codes "<?") (beyond_word (codes "?>")) text rest e in
         ap (λ t. html_tag rules (t ++ x)) front.1
         ∙ instruction-alone rules (front.0 ++ x) (rest ++ x) (ap (λ t. instruction (t ++ x)) (sym front.1) ∙ from_to-extends (codes "<?") (codes "?>") text x rest e)
 
@@ -195,7 +195,7 @@ module _ (rules : Rules) (text x : List ℕ) where
     pub character_data-goes-on : character_data text ≡ Some rest → html_tag rules (text ++ x) ≡ Some (rest ++ x)
     unfolding from_to
     character_data-goes-on e =
-        let front = begun (codes "<![CDATA[") (behind_word (codes "]]>")) text rest e in
+        let front = begun (codes "<![CDATA[") (beyond_word (codes "]]>")) text rest e in
         ap (λ t. html_tag rules (t ++ x)) front.1
         ∙ character_data-alone rules (codes "CDATA[" ++ (front.0 ++ x)) (rest ++ x) (ap (λ t. character_data (t ++ x)) (sym front.1) ∙ from_to-extends (codes "<![CDATA[") (codes "]]>") text x rest e)
 
@@ -215,13 +215,13 @@ tag_goes_on rules text rest x e = opening (open_tag text) refl e
     third (Some r) f h = comment-goes-on rules text x r f ∙ ap (λ t. Some (t ++ x)) (some-same h)
     third None f h = fourth (instruction text) refl h
 
-    closing : (o : Option Named) → closing_tag text ≡ o → behind_tag o <|> comment rules.older text <|> instruction text <|> declaration text <|> character_data text ≡ Some rest
+    closing : (o : Option Named) → closing_tag text ≡ o → after_tag o <|> comment rules.older text <|> instruction text <|> declaration text <|> character_data text ≡ Some rest
         → html_tag rules (text ++ x) ≡ Some (rest ++ x)
     closing (Some tag) f h = closing-goes-on rules text x tag f ∙ ap (λ t. Some (t ++ x)) (some-same h)
     closing None f h = third (comment rules.older text) refl h
 
     others : List ℕ → Option Named → Option (List ℕ)
-    others t o = behind_tag o <|> behind_tag (closing_tag t) <|> comment rules.older t <|> instruction t <|> declaration t <|> character_data t
+    others t o = after_tag o <|> after_tag (closing_tag t) <|> comment rules.older t <|> instruction t <|> declaration t <|> character_data t
 
     opening : (o : Option Named) → open_tag text ≡ o → others text o ≡ Some rest → html_tag rules (text ++ x) ≡ Some (rest ++ x)
     opening (Some tag) f h = ap (others (text ++ x)) (open_tag-extends text x tag f) ∙ ap (λ t. Some (t ++ x)) (some-same h)

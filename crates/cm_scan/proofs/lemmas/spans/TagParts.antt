@@ -1,7 +1,8 @@
 -- Parts of tags.
+use Rattle.std.specs.Char.{is_ascii_alphabetic}
 use Rattle.std.proofs.Common.{⊎_elim, ◌≡◌, ℕ, zero, suc, ◌+◌, ◌-◌, ◌<◌, ◌≤◌, Bool, true, false, List, [], ◌∷◌, length, take, drop, get_or, Some, None, codes, refl, sym, ap, ◌∙◌, arith, add-one}
 use Rattle.std.proofs.lemmas.Bool.{cases_Bool}
-use Rattle.cm_scan.specs.Words.{is_letter, skip, front_of, after_word}
+use Rattle.cm_scan.specs.Words.{skip, front_of, after_word}
 use Rattle.cm_scan.specs.spans.Tags.{Named, after_quoted, is_blank_next, after_gap, after_attribute, after_tag_end, after_attributes, tag_name, open_tag, closing_tag, with_rest}
 use Rattle.cm_scan.specs.steps.TagNames.{continues_name}
 
@@ -70,7 +71,7 @@ front-is test (b ∷ bs) = ⊎_elim
     (λ (e : test b ≡ false). grind (arith, e))
     (cases_Bool (test b))
 
-pub name_found : (b : ℕ) (bs : List ℕ) → is_letter b ≡ true
+pub name_found : (b : ℕ) (bs : List ℕ) → is_ascii_alphabetic b ≡ true
     → tag_name (b ∷ bs) ≡ Some (record { name = take (suc (length bs) - length (skip continues_name bs)) (b ∷ bs); rest = skip continues_name bs })
 unfolding tag_name
 name_found b bs letter =
@@ -80,7 +81,7 @@ name_found b bs letter =
     ap (λ x. b ∷ x) h ∙ ap (λ k. take k (b ∷ bs)) (sym n) in
     grind (arith, letter, name)
 
-pub name_other : (b : ℕ) (bs : List ℕ) → is_letter b ≡ false → tag_name (b ∷ bs) ≡ None
+pub name_other : (b : ℕ) (bs : List ℕ) → is_ascii_alphabetic b ≡ false → tag_name (b ∷ bs) ≡ None
 unfolding tag_name
 name_other b bs other = grind (arith, other)
 

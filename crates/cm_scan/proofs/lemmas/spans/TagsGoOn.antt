@@ -1,7 +1,8 @@
 -- Tags with more text after.
+use Rattle.std.specs.Char.{is_ascii_alphabetic, is_ascii_alphanumeric}
 use Rattle.std.proofs.Common.{◌≡◌, ℕ, zero, suc, ◌≤◌, Bool, true, false, ◌==◌, ◌||◌, List, [], ◌∷◌, ◌++◌, length, Option, Some, None, codes, refl, sym, ap, ◌∙◌, arith, length-append}
 use Rattle.std.proofs.lemmas.Bool.{eqb-true}
-use Rattle.cm_scan.specs.Words.{is_letter, is_letter_or_digit, is_empty, skip, front_of, after_word}
+use Rattle.cm_scan.specs.Words.{is_empty, skip, front_of, after_word, ◌and_then◌}
 use Rattle.cm_scan.specs.spans.Tags.{Named, after_gap, is_blank_next, tag_name, begins_attribute, continues_attribute, is_unquoted, after_quoted, after_unquoted, after_value, after_specification, after_attribute, after_tag_end, after_attributes, with_rest, open_tag, closing_tag}
 use Rattle.cm_scan.proofs.lemmas.texts.WordsGoOn.{false-true, none-some, some-same, word-extends, word-other, skip-extends, front-extends, gap-extends}
 
@@ -80,24 +81,24 @@ equals-nothing : after_word (codes "=") [] ≡ None
 unfolding after_word
 equals-nothing = refl
 
-left-behind-gap : (text : List ℕ) → is_empty (after_gap text) ≡ false → is_empty text ≡ false
+left-beyond-gap : (text : List ℕ) → is_empty (after_gap text) ≡ false → is_empty text ≡ false
 unfolding after_gap skip
-left-behind-gap [] e = e
-left-behind-gap (b ∷ bs) e = refl
+left-beyond-gap [] e = e
+left-beyond-gap (b ∷ bs) e = refl
 
 pub specification-extends : (text x rest : List ℕ) → after_specification text ≡ Some rest → is_empty (after_gap rest) ≡ false → after_specification (text ++ x) ≡ Some (rest ++ x)
 unfolding after_specification
 specification-extends text x rest e f = go (after_word (codes "=") (after_gap text)) refl e
   where
     by : List ℕ → Option (List ℕ) → Option (List ℕ)
-    by t o = elim o as (λ _. Option (List ℕ)) [ Some behind ↦ after_value (after_gap behind) | None ↦ Some t ]
+    by t o = elim o as (λ _. Option (List ℕ)) [ Some beyond ↦ after_value (after_gap beyond) | None ↦ Some t ]
 
     go : (o : Option (List ℕ)) → after_word (codes "=") (after_gap text) ≡ o → by text o ≡ Some rest → by (text ++ x) (after_word (codes "=") (after_gap (text ++ x))) ≡ Some (rest ++ x)
-    go (Some behind) g e =
-        ap (λ t. by (text ++ x) (after_word (codes "=") t)) (gap-extends text x (not-empty (after_word (codes "=")) equals-nothing (after_gap text) behind g))
-        ∙ ap (by (text ++ x)) (word-extends (codes "=") (after_gap text) x behind g)
-        ∙ ap after_value (gap-extends behind x (not-empty after_value value-nothing (after_gap behind) rest e))
-        ∙ value-extends (after_gap behind) x rest e (left-behind-gap rest f)
+    go (Some beyond) g e =
+        ap (λ t. by (text ++ x) (after_word (codes "=") t)) (gap-extends text x (not-empty (after_word (codes "=")) equals-nothing (after_gap text) beyond g))
+        ∙ ap (by (text ++ x)) (word-extends (codes "=") (after_gap text) x beyond g)
+        ∙ ap after_value (gap-extends beyond x (not-empty after_value value-nothing (after_gap beyond) rest e))
+        ∙ value-extends (after_gap beyond) x rest e (left-beyond-gap rest f)
     go None g e =
         ap (λ t. by (text ++ x) (after_word (codes "=") t)) (gap-extends text x goes_on)
         ∙ ap (by (text ++ x)) (word-other (codes "=") (after_gap text) x g (at-least-one (after_gap text) goes_on))
@@ -217,10 +218,10 @@ attributes-extend (suc n) (suc m) text x rest l e =
 pub name-extends : (text x : List ℕ) (tag : Named) → tag_name text ≡ Some tag → is_empty tag.rest ≡ false → tag_name (text ++ x) ≡ Some (record { name = tag.name; rest = tag.rest ++ x })
 unfolding tag_name
 name-extends [] x tag e f = none-some e
-name-extends (b ∷ bs) x tag e f = go (is_letter b) e
+name-extends (b ∷ bs) x tag e f = go (is_ascii_alphabetic b) e
   where
     continues : ℕ → Bool
-    continues c = is_letter_or_digit c || c == 45
+    continues c = is_ascii_alphanumeric c || c == 45
 
     by : List ℕ → Bool → Option Named
     by t c = elim c as (λ _. Option Named) [ true ↦ Some (record { name = b ∷ front_of continues t; rest = skip continues t }) | false ↦ None ]
@@ -252,12 +253,12 @@ with_rest-read name (Some rest) tag e = (ap (λ (t : Named). t.name) same, ap (�
 -- after the name of a tag, in a reading that needs something there
 named-extends : (reading : List ℕ → Option (List ℕ)) (further : List ℕ → Option (List ℕ)) (text x : List ℕ) (tag : Named) → reading [] ≡ None
     → ((t r : List ℕ) → reading t ≡ Some r → further (t ++ x) ≡ Some (r ++ x))
-    → elim (tag_name text) as (λ _. Option Named) [ Some t ↦ with_rest t.name (reading t.rest) | None ↦ None ] ≡ Some tag
-    → elim (tag_name (text ++ x)) as (λ _. Option Named) [ Some t ↦ with_rest t.name (further t.rest) | None ↦ None ] ≡ Some (longer tag x)
+    → (tag_name text and_then λ t. with_rest t.name (reading t.rest)) ≡ Some tag
+    → (tag_name (text ++ x) and_then λ t. with_rest t.name (further t.rest)) ≡ Some (longer tag x)
 named-extends reading further text x tag none extends e = go (tag_name text) refl e
   where
     by : (List ℕ → Option (List ℕ)) → Option Named → Option Named
-    by p o = elim o as (λ _. Option Named) [ Some t ↦ with_rest t.name (p t.rest) | None ↦ None ]
+    by p o = o and_then λ t. with_rest t.name (p t.rest)
 
     go : (o : Option Named) → tag_name text ≡ o → by reading o ≡ Some tag → by further (tag_name (text ++ x)) ≡ Some (longer tag x)
     go None f e = none-some e
@@ -296,7 +297,7 @@ unfolding open_tag
 open_tag-extends text x tag e = go (after_word (codes "<") text) refl e
   where
     by : Option (List ℕ) → Option Named
-    by o = elim o as (λ _. Option Named) [ Some inside ↦ elim (tag_name inside) as (λ _. Option Named) [ Some t ↦ with_rest t.name (enough t.rest) | None ↦ None ] | None ↦ None ]
+    by o = o and_then λ inside. tag_name inside and_then λ t. with_rest t.name (enough t.rest)
 
     go : (o : Option (List ℕ)) → after_word (codes "<") text ≡ o → by o ≡ Some tag → by (after_word (codes "<") (text ++ x)) ≡ Some (longer tag x)
     go None f e = none-some e
@@ -307,7 +308,7 @@ unfolding closing_tag
 closing_tag-extends text x tag e = go (after_word (codes "</") text) refl e
   where
     by : Option (List ℕ) → Option Named
-    by o = elim o as (λ _. Option Named) [ Some inside ↦ elim (tag_name inside) as (λ _. Option Named) [ Some t ↦ with_rest t.name (closes t.rest) | None ↦ None ] | None ↦ None ]
+    by o = o and_then λ inside. tag_name inside and_then λ t. with_rest t.name (closes t.rest)
 
     go : (o : Option (List ℕ)) → after_word (codes "</") text ≡ o → by o ≡ Some tag → by (after_word (codes "</") (text ++ x)) ≡ Some (longer tag x)
     go None f e = none-some e

@@ -7,7 +7,7 @@ use Rattle.cm_text.specs.Indentation.{blank_width, strip_from, strip_columns}
 use Rattle.cm_scan.specs.Words.{is_space_or_tab, skip, trim_start}
 use Rattle.cm_scan.specs.blocks.Lines.{past}
 use Rattle.cm_scan.specs.blocks.LineForms.{ItemMarker}
-use Rattle.cm_scan.specs.blocks.Starts.{Start, start_of, Continuation, Stays, StaysIfOpen, Leaves, continuation_if_lazy, behind_quote_marker, quote_continuation, continuation_in_quote, content_offset, behind_marker, first_content, continuation_in_item}
+use Rattle.cm_scan.specs.blocks.Starts.{Start, start_of, Continuation, Stays, StaysIfOpen, Leaves, continuation_if_lazy, after_quote_marker, quote_continuation, continuation_in_quote, content_offset, after_marker, first_content, continuation_in_item}
 
 -- each byte adds its own, and a space nothing
 pub record AddsUp (total : List ℕ → ℕ) : Type 0 where
@@ -67,14 +67,14 @@ module _ (total : List ℕ → ℕ) (adds : AddsUp total) where
   unfolding past
   sum-past n line = omega (arith, sum-drop n (trim_start line.text), sum-skip is_space_or_tab line.text)
 
-  pub sum-behind_quote_marker : (line : LineView) → total (behind_quote_marker line).text ≤ total line.text
-  unfolding behind_quote_marker
-  sum-behind_quote_marker line = omega (arith, sum-strip 1 (past 1 line), sum-past 1 line)
+  pub sum-after_quote_marker : (line : LineView) → total (after_quote_marker line).text ≤ total line.text
+  unfolding after_quote_marker
+  sum-after_quote_marker line = omega (arith, sum-strip 1 (past 1 line), sum-past 1 line)
 
   pub sum-first_content : (marker : ItemMarker) (line : LineView) → total (first_content marker line).text ≤ total line.text
   unfolding first_content
   sum-first_content marker line =
-      omega (arith, sum-strip (content_offset (behind_marker marker line)) (behind_marker marker line), sum-past (suc marker.digits) line)
+      omega (arith, sum-strip (content_offset (after_marker marker line)) (after_marker marker line), sum-past (suc marker.digits) line)
 
   no_more-lazy : (rules : Rules) (line : LineView) → NoMore total line (continuation_if_lazy rules line)
   unfolding continuation_if_lazy
@@ -87,7 +87,7 @@ module _ (total : List ℕ → ℕ) (adds : AddsUp total) where
       go : (start : Start) → NoMore total line (quote_continuation rules start line)
       go start =
           let h : NoMore total line (continuation_if_lazy rules line) = no_more-lazy rules line in
-          let k : total (behind_quote_marker line).text ≤ total line.text = sum-behind_quote_marker line in
+          let k : total (after_quote_marker line).text ≤ total line.text = sum-after_quote_marker line in
           grind (arith, h, k)
 
   pub no_more-item : (rules : Rules) (column : ℕ) (bare : Bool) (line : LineView) → NoMore total line (continuation_in_item rules column bare line)

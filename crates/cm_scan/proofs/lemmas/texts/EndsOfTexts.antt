@@ -14,16 +14,16 @@ whole-end text = record { front = []; is = refl }
 pub same-left : {text : List ℕ} (a b : List ℕ) → a ≡ b → IsEnd a text → IsEnd b text
 same-left a b e h = record { front = h.front; is = h.is ∙ ap (λ t. h.front ++ t) e }
 
-pub behind-byte : {left : List ℕ} (b : ℕ) (bs : List ℕ) → IsEnd left bs → IsEnd left (b ∷ bs)
-behind-byte b bs h = record { front = b ∷ h.front; is = ap (λ t. b ∷ t) h.is }
+pub beyond-byte : {left : List ℕ} (b : ℕ) (bs : List ℕ) → IsEnd left bs → IsEnd left (b ∷ bs)
+beyond-byte b bs h = record { front = b ∷ h.front; is = ap (λ t. b ∷ t) h.is }
 
 -- an end of what is left
 pub end-of-end : {left middle text : List ℕ} → IsEnd middle text → IsEnd left middle → IsEnd left text
 end-of-end {left} g h = record { front = g.front ++ h.front; is = g.is ∙ ap (λ t. g.front ++ t) h.is ∙ sym (append_assoc g.front h.front left) }
 
 -- without its first byte too
-pub end-behind-one : (c b : ℕ) (left bs : List ℕ) → IsEnd (c ∷ left) (b ∷ bs) → IsEnd left bs
-end-behind-one c b left bs h = go h.front h.is
+pub end-beyond-one : (c b : ℕ) (left bs : List ℕ) → IsEnd (c ∷ left) (b ∷ bs) → IsEnd left bs
+end-beyond-one c b left bs h = go h.front h.is
   where
     but_first : List ℕ → List ℕ
     but_first t = elim t as (λ _. List ℕ) [ [] ↦ [] | x ∷ xs ↦ xs ]
@@ -35,7 +35,7 @@ end-behind-one c b left bs h = go h.front h.is
 pub drop-end : (n : ℕ) (text : List ℕ) → IsEnd (drop n text) text
 drop-end zero text = whole-end text
 drop-end (suc n) [] = whole-end []
-drop-end (suc n) (b ∷ bs) = behind-byte b bs (drop-end n bs)
+drop-end (suc n) (b ∷ bs) = beyond-byte b bs (drop-end n bs)
 
 pub word-end : (word text rest : List ℕ) → after_word word text ≡ Some rest → IsEnd rest text
 word-end word text rest e = record { front = word; is = word-front word text rest e }
@@ -46,7 +46,7 @@ skip-end test [] = whole-end []
 skip-end test (b ∷ bs) = go (test b) (skip-end test bs)
   where
     go : (c : Bool) → IsEnd (skip test bs) bs → IsEnd (elim c as (λ _. List ℕ) [ true ↦ skip test bs | false ↦ b ∷ bs ]) (b ∷ bs)
-    go true h = behind-byte b bs h
+    go true h = beyond-byte b bs h
     go false h = whole-end (b ∷ bs)
 
 pub run-end : (marker : ℕ) (text : List ℕ) → IsEnd (after_run marker text) text
@@ -55,7 +55,7 @@ run-end marker [] = whole-end []
 run-end marker (b ∷ bs) = go (b == marker) (run-end marker bs)
   where
     go : (c : Bool) → IsEnd (after_run marker bs) bs → IsEnd (elim c as (λ _. List ℕ) [ true ↦ after_run marker bs | false ↦ b ∷ bs ]) (b ∷ bs)
-    go true h = behind-byte b bs h
+    go true h = beyond-byte b bs h
     go false h = whole-end (b ∷ bs)
 
 line-end : (text : List ℕ) → IsEnd (after_line_ending text) text
@@ -63,7 +63,7 @@ line-end [] = whole-end []
 line-end (b ∷ bs) = go (b == 10)
   where
     go : (c : Bool) → IsEnd (cond c (skip is_space_or_tab bs) (b ∷ bs)) (b ∷ bs)
-    go true = behind-byte b bs (skip-end is_space_or_tab bs)
+    go true = beyond-byte b bs (skip-end is_space_or_tab bs)
     go false = whole-end (b ∷ bs)
 
 pub gap-end : (text : List ℕ) → IsEnd (after_gap text) text

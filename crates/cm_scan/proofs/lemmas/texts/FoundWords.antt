@@ -3,7 +3,7 @@ use Rattle.std.proofs.Common.{◌≡◌, ℕ, zero, suc, ◌+◌, ◌-◌, ◌<�
 use Rattle.std.proofs.lemmas.Bool.{eqb-true}
 use Rattle.memchr.specs.Find.{OccursAt, FindsNeedle}
 use Rattle.cm_scan.specs.Words.{after_word, is_at_word, holds_word, given}
-use Rattle.cm_scan.specs.spans.RawHtml.{behind_word}
+use Rattle.cm_scan.specs.spans.RawHtml.{beyond_word}
 use Rattle.cm_scan.proofs.lemmas.texts.WordsGoOn.{false-true}
 
 -- what follows a word is there where the word is
@@ -81,30 +81,30 @@ finds-nowhere word text h k high = not-occurs word text k high (h k (omega arith
 
 -- a word somewhere in a text
 
-past-there : (word : List ℕ) (b : ℕ) (bs : List ℕ) → is_at_word word (b ∷ bs) ≡ true → behind_word word (b ∷ bs) ≡ Some (drop (length word) (b ∷ bs))
-unfolding behind_word
-past-there word b bs h = ap (λ o. elim o as (λ _. Option (List ℕ)) [ Some rest ↦ Some rest | None ↦ behind_word word bs ]) (word-there word (b ∷ bs) h)
+past-there : (word : List ℕ) (b : ℕ) (bs : List ℕ) → is_at_word word (b ∷ bs) ≡ true → beyond_word word (b ∷ bs) ≡ Some (drop (length word) (b ∷ bs))
+unfolding beyond_word
+past-there word b bs h = ap (λ o. elim o as (λ _. Option (List ℕ)) [ Some rest ↦ Some rest | None ↦ beyond_word word bs ]) (word-there word (b ∷ bs) h)
 
-past-absent : (word : List ℕ) (b : ℕ) (bs : List ℕ) → is_at_word word (b ∷ bs) ≡ false → behind_word word (b ∷ bs) ≡ behind_word word bs
-unfolding behind_word
-past-absent word b bs h = ap (λ o. elim o as (λ _. Option (List ℕ)) [ Some rest ↦ Some rest | None ↦ behind_word word bs ]) (word-absent word (b ∷ bs) h)
+past-absent : (word : List ℕ) (b : ℕ) (bs : List ℕ) → is_at_word word (b ∷ bs) ≡ false → beyond_word word (b ∷ bs) ≡ beyond_word word bs
+unfolding beyond_word
+past-absent word b bs h = ap (λ o. elim o as (λ _. Option (List ℕ)) [ Some rest ↦ Some rest | None ↦ beyond_word word bs ]) (word-absent word (b ∷ bs) h)
 
-past-nothing : (word text : List ℕ) → Nowhere word text → behind_word word text ≡ None
-unfolding behind_word
+past-nothing : (word text : List ℕ) → Nowhere word text → beyond_word word text ≡ None
+unfolding beyond_word
 past-nothing word [] none = refl
 past-nothing word (b ∷ bs) none = past-absent word b bs (none 0 (omega arith)) ∙ past-nothing word bs (λ k high. none (suc k) (omega (arith, high)))
 
 past-first : (word text : List ℕ) (k : ℕ) → 0 < length word → k ≤ length text → ((j : ℕ) → j < k → is_at_word word (drop j text) ≡ false)
-    → is_at_word word (drop k text) ≡ true → behind_word word text ≡ Some (drop (length word) (drop k text))
+    → is_at_word word (drop k text) ≡ true → beyond_word word text ≡ Some (drop (length word) (drop k text))
 past-first word [] k some high none h = absurd (omega (arith, some, (front-reads word (drop k []) h).0, length-drop {A = ℕ} k []))
 past-first word (b ∷ bs) zero some high none h = past-there word b bs h
 past-first word (b ∷ bs) (suc k) some high none h =
     past-absent word b bs (none 0 (omega arith)) ∙ past-first word bs k some (omega (arith, high)) (λ j below. none (suc j) (omega (arith, below))) h
 
-pub past-none : (word text : List ℕ) → FindsNeedle text word 0 None → None ≡ behind_word word text
+pub past-none : (word text : List ℕ) → FindsNeedle text word 0 None → None ≡ beyond_word word text
 past-none word text h = sym (past-nothing word text (finds-nowhere word text h))
 
-pub past-found : (word text : List ℕ) (k : ℕ) → 0 < length word → FindsNeedle text word 0 (Some k) → Some (drop (k + length word) text) ≡ behind_word word text
+pub past-found : (word text : List ℕ) (k : ℕ) → 0 < length word → FindsNeedle text word 0 (Some k) → Some (drop (k + length word) text) ≡ beyond_word word text
 past-found word text k some h =
     let high : k ≤ length text = omega (arith, h.1.fits) in
     let first = past-first word text k some high (λ j below. not-occurs word text j (omega (arith, below, high)) (h.0.before j (omega arith) below)) (occurs-there word text k h.1) in
@@ -142,8 +142,8 @@ holds-found word text None h = sym (holds-nothing word text (finds-nowhere word 
 holds-found word text (Some k) h = sym (holds-there word text k (omega (arith, h.1.fits)) (occurs-there word text k h.1))
 
 -- a word that is nowhere is nowhere further on
-past-nowhere : (word text : List ℕ) → holds_word word text ≡ false → behind_word word text ≡ None
-unfolding behind_word holds_word
+past-nowhere : (word text : List ℕ) → holds_word word text ≡ false → beyond_word word text ≡ None
+unfolding beyond_word holds_word
 past-nowhere word [] h = refl
 past-nowhere word (b ∷ bs) h =
     let parts = or-parts (is_at_word word (b ∷ bs)) (holds_word word bs) h in
@@ -158,6 +158,6 @@ holds-later word (b ∷ bs) (suc n) h = holds-later word bs n (or-parts (is_at_w
 pub drop-later : (text : List ℕ) (from later : ℕ) → from ≤ later → drop later text ≡ drop (later - from) (drop from text)
 drop-later text from later low = let place : later ≡ from + (later - from) = omega (arith, low) in ap (λ n. drop n text) place ∙ sym (drop-drop (later - from) from text)
 
-pub past-later : (word text : List ℕ) (from later : ℕ) → from ≤ later → holds_word word (drop from text) ≡ false → behind_word word (drop later text) ≡ None
+pub past-later : (word text : List ℕ) (from later : ℕ) → from ≤ later → holds_word word (drop from text) ≡ false → beyond_word word (drop later text) ≡ None
 past-later word text from later low h =
-    ap (behind_word word) (drop-later text from later low) ∙ past-nowhere word (drop (later - from) (drop from text)) (holds-later word (drop from text) (later - from) h)
+    ap (beyond_word word) (drop-later text from later low) ∙ past-nowhere word (drop (later - from) (drop from text)) (holds-later word (drop from text) (later - from) h)

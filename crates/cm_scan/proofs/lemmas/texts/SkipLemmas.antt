@@ -1,6 +1,8 @@
 -- What is left after bytes that pass a test.
-use Rattle.std.proofs.Common.{◌≡◌, ℕ, suc, ◌+◌, ◌<◌, ◌≤◌, Bool, true, false, List, [], ◌∷◌, length, drop, get_or, refl, arith, add-one, drop-cons}
+use Rattle.std.proofs.Common.{◌≡◌, ℕ, suc, ◌+◌, ◌<◌, ◌≤◌, Bool, true, false, List, [], ◌∷◌, length, drop, get_or, refl, ap, ◌∙◌, arith, add-one, drop-cons}
+use Rattle.std.specs.Prelude.{cond}
 use Rattle.std.proofs.lemmas.List.{drop_all}
+use Rattle.std.specs.List.{prefix_len}
 use Rattle.cm_scan.specs.Words.{skip}
 
 module _ (test : ℕ → Bool) where
@@ -21,3 +23,15 @@ module _ (test : ℕ → Bool) where
   pub skip_all : (bs : List ℕ) (i : ℕ) → length bs ≤ i → skip test (drop i bs) ≡ []
   unfolding skip
   skip_all bs i past = rw (drop_all i bs past) refl
+
+  -- what is left after those that pass
+  pub passed-skipped : (bs : List ℕ) → drop (prefix_len test bs) bs ≡ skip test bs
+  unfolding skip
+  passed-skipped [] = refl
+  passed-skipped (b ∷ bs) = go (test b) (passed-skipped bs)
+    where
+      go : (c : Bool) → drop (prefix_len test bs) bs ≡ skip test bs → drop (cond c (1 + prefix_len test bs) 0) (b ∷ bs) ≡ elim c as (λ _. List ℕ) [ true ↦ skip test bs | false ↦ b ∷ bs ]
+      go true rest =
+          let one : 1 + prefix_len test bs ≡ suc (prefix_len test bs) = omega arith in
+          ap (λ k. drop k (b ∷ bs)) one ∙ rest
+      go false rest = refl

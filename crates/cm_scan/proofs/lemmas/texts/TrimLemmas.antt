@@ -16,7 +16,7 @@ unfolding trim_end_by ends_with
 trimmed [] = record { count = 0; is = refl; ended = refl }
 trimmed (b ∷ bs) =
     let again = trimmed bs in
-    let parts = go (trim_end_by false bs) again.count again.is again.ended in
+    let parts = go (trim_end_by (λ c. c == 32) bs) again.count again.is again.ended in
     record { count = parts.0; is = parts.1; ended = parts.2 }
   where
     lone : (space : Bool) → (b == 32) ≡ space → (count : ℕ) → bs ≡ replicate count 32
@@ -25,6 +25,6 @@ trimmed (b ∷ bs) =
     lone false p count is = (count, ap (λ t. b ∷ t) is, p)
 
     go : (left : List ℕ) → (count : ℕ) → bs ≡ left ++ replicate count 32 → ends_with 32 left ≡ false
-        → (k : ℕ) × (b ∷ bs ≡ keep_byte false b left ++ replicate k 32) × (ends_with 32 (keep_byte false b left) ≡ false)
+        → (k : ℕ) × (b ∷ bs ≡ keep_byte (λ c. c == 32) b left ++ replicate k 32) × (ends_with 32 (keep_byte (λ c. c == 32) b left) ≡ false)
     go [] count is ended = lone (b == 32) refl count is
     go (c ∷ cs) count is ended = (count, ap (λ t. b ∷ t) is, ended)

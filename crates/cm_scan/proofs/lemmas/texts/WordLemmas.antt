@@ -2,7 +2,8 @@
 use Rattle.std.proofs.Common.{Bool, ◌≡◌, ℕ, suc, ◌+◌, ◌-◌, ◌<◌, ◌≤◌, true, false, List, [], ◌∷◌, ◌++◌, length, take, drop, get_or, refl, sym, ap, ◌∙◌, arith, add-one, drop-cons}
 use Rattle.std.proofs.Math.Seq.{take-suc}
 use Rattle.std.proofs.lemmas.List.{drop_all}
-use Rattle.cm_scan.specs.Words.{is_space_or_tab, skip, run_length, after_run, trim_start, is_trimmed, keep_byte, trim_end_by}
+use Rattle.cm_scan.specs.steps.LineSteps.{is_trimmed}
+use Rattle.cm_scan.specs.Words.{is_space_or_tab, skip, run_length, after_run, trim_start, keep_byte, trim_end_by}
 
 -- a space or tab is ASCII
 pub blank_ascii : (b : ℕ) → is_space_or_tab b ≡ true → b < 128
@@ -79,21 +80,21 @@ pub trim_start-end : (bs : List ℕ) (i : ℕ) → length bs ≤ i → trim_star
 trim_start-end bs i past = trim_start-none (drop i bs) (drop_all i bs past)
 
 -- a last byte that is trimmed goes
-trim_end-last : (tabs : Bool) (xs : List ℕ) (b : ℕ) → is_trimmed tabs b ≡ true → trim_end_by tabs (xs ++ b ∷ []) ≡ trim_end_by tabs xs
+trim_end-last : (test : ℕ → Bool) (xs : List ℕ) (b : ℕ) → test b ≡ true → trim_end_by test (xs ++ b ∷ []) ≡ trim_end_by test xs
 unfolding trim_end_by
-trim_end-last tabs [] b passes = rw passes refl
-trim_end-last tabs (x ∷ xs) b passes = ap (keep_byte tabs x) (trim_end-last tabs xs b passes)
+trim_end-last test [] b passes = rw passes refl
+trim_end-last test (x ∷ xs) b passes = ap (keep_byte test x) (trim_end-last test xs b passes)
 
 -- before a last byte that stays, each byte stays
-keep_byte-last : (tabs : Bool) (x : ℕ) (xs : List ℕ) (b : ℕ) → keep_byte tabs x (xs ++ b ∷ []) ≡ x ∷ (xs ++ b ∷ [])
-keep_byte-last tabs x [] b = refl
-keep_byte-last tabs x (y ∷ ys) b = refl
+keep_byte-last : (test : ℕ → Bool) (x : ℕ) (xs : List ℕ) (b : ℕ) → keep_byte test x (xs ++ b ∷ []) ≡ x ∷ (xs ++ b ∷ [])
+keep_byte-last test x [] b = refl
+keep_byte-last test x (y ∷ ys) b = refl
 
 -- another last byte stays
-trim_end-kept : (tabs : Bool) (xs : List ℕ) (b : ℕ) → is_trimmed tabs b ≡ false → trim_end_by tabs (xs ++ b ∷ []) ≡ xs ++ b ∷ []
+trim_end-kept : (test : ℕ → Bool) (xs : List ℕ) (b : ℕ) → test b ≡ false → trim_end_by test (xs ++ b ∷ []) ≡ xs ++ b ∷ []
 unfolding trim_end_by
-trim_end-kept tabs [] b fails = rw fails refl
-trim_end-kept tabs (x ∷ xs) b fails = ap (keep_byte tabs x) (trim_end-kept tabs xs b fails) ∙ keep_byte-last tabs x xs b
+trim_end-kept test [] b fails = rw fails refl
+trim_end-kept test (x ∷ xs) b fails = ap (keep_byte test x) (trim_end-kept test xs b fails) ∙ keep_byte-last test x xs b
 
 -- a front of a text, with its last byte apart
 front_last : (bs : List ℕ) (n : ℕ) → 0 < n → n ≤ length bs → take n bs ≡ take (n - 1) bs ++ get_or bs (n - 1) 0 ∷ []
@@ -102,16 +103,16 @@ front_last bs n some within =
     ap (λ k. take k bs) last ∙ take-suc bs (n - 1) 0 (omega arith)
 
 -- a byte at the end that is trimmed goes
-pub trim_end-step : (tabs : Bool) (bs : List ℕ) (n : ℕ) → 0 < n → n ≤ length bs → is_trimmed tabs (get_or bs (n - 1) 0) ≡ true
-    → trim_end_by tabs (take n bs) ≡ trim_end_by tabs (take (n - 1) bs)
-trim_end-step tabs bs n some within passes =
-    ap (trim_end_by tabs) (front_last bs n some within) ∙ trim_end-last tabs (take (n - 1) bs) (get_or bs (n - 1) 0) passes
+pub trim_end-step : (test : ℕ → Bool) (bs : List ℕ) (n : ℕ) → 0 < n → n ≤ length bs → test (get_or bs (n - 1) 0) ≡ true
+    → trim_end_by test (take n bs) ≡ trim_end_by test (take (n - 1) bs)
+trim_end-step test bs n some within passes =
+    ap (trim_end_by test) (front_last bs n some within) ∙ trim_end-last test (take (n - 1) bs) (get_or bs (n - 1) 0) passes
 
 -- another byte at the end stays
-pub trim_end-stop : (tabs : Bool) (bs : List ℕ) (n : ℕ) → 0 < n → n ≤ length bs → is_trimmed tabs (get_or bs (n - 1) 0) ≡ false
-    → trim_end_by tabs (take n bs) ≡ take n bs
-trim_end-stop tabs bs n some within fails =
-    ap (trim_end_by tabs) (front_last bs n some within) ∙ trim_end-kept tabs (take (n - 1) bs) (get_or bs (n - 1) 0) fails ∙ sym (front_last bs n some within)
+pub trim_end-stop : (test : ℕ → Bool) (bs : List ℕ) (n : ℕ) → 0 < n → n ≤ length bs → test (get_or bs (n - 1) 0) ≡ false
+    → trim_end_by test (take n bs) ≡ take n bs
+trim_end-stop test bs n some within fails =
+    ap (trim_end_by test) (front_last bs n some within) ∙ trim_end-kept test (take (n - 1) bs) (get_or bs (n - 1) 0) fails ∙ sym (front_last bs n some within)
 
 -- a byte that is trimmed is ASCII
 pub trimmed_ascii : (tabs : Bool) (b : ℕ) → is_trimmed tabs b ≡ true → b < 128
@@ -119,8 +120,8 @@ trimmed_ascii true b h = blank_ascii b h
 trimmed_ascii false b h = grind (arith, h)
 
 -- of no bytes nothing is left
-pub trim_end-none : (tabs : Bool) (bs : List ℕ) (n : ℕ) → n ≤ 0 → trim_end_by tabs (take n bs) ≡ take n bs
+pub trim_end-none : (test : ℕ → Bool) (bs : List ℕ) (n : ℕ) → n ≤ 0 → trim_end_by test (take n bs) ≡ take n bs
 unfolding trim_end_by
-trim_end-none tabs bs n none =
+trim_end-none test bs n none =
     let nothing : n ≡ 0 = omega arith in
     rw nothing refl

@@ -4,7 +4,7 @@ use Rattle.std.proofs.lemmas.Bool.{false≢true}
 use Rattle.cm_scan.specs.Words.{is_space_or_tab, is_empty, skip, front_of, after_word}
 use Rattle.cm_scan.specs.spans.Tags.{after_line_ending, after_gap}
 use Rattle.cm_scan.specs.inlines.Links.{Reading}
-use Rattle.cm_scan.specs.spans.RawHtml.{behind_word, from_to}
+use Rattle.cm_scan.specs.spans.RawHtml.{beyond_word, from_to}
 
 -- a reading with more text after it
 abbrev pub longer : Reading → List ℕ → Reading
@@ -56,26 +56,26 @@ word-length (w ∷ ws) (b ∷ bs) rest e = go (b == w) e (λ h. word-length ws b
     go true e k = omega (arith, k e)
     go false e k = none-some e
 
-pub past-length : (word text rest : List ℕ) → behind_word word text ≡ Some rest → length word ≤ length text
-unfolding behind_word
+pub past-length : (word text rest : List ℕ) → beyond_word word text ≡ Some rest → length word ≤ length text
+unfolding beyond_word
 past-length word [] rest e = none-some e
 past-length word (b ∷ bs) rest e = go (after_word word (b ∷ bs)) refl e (λ h. past-length word bs rest h)
   where
-    go : (o : Option (List ℕ)) → after_word word (b ∷ bs) ≡ o → elim o as (λ _. Option (List ℕ)) [ Some r ↦ Some r | None ↦ behind_word word bs ] ≡ Some rest
-        → (behind_word word bs ≡ Some rest → length word ≤ length bs) → length word ≤ suc (length bs)
+    go : (o : Option (List ℕ)) → after_word word (b ∷ bs) ≡ o → elim o as (λ _. Option (List ℕ)) [ Some r ↦ Some r | None ↦ beyond_word word bs ] ≡ Some rest
+        → (beyond_word word bs ≡ Some rest → length word ≤ length bs) → length word ≤ suc (length bs)
     go (Some r) f e k = word-length word (b ∷ bs) r f
     go None f e k = omega (arith, k e)
 
-pub past-extends : (word text x rest : List ℕ) → behind_word word text ≡ Some rest → behind_word word (text ++ x) ≡ Some (rest ++ x)
-unfolding behind_word
+pub past-extends : (word text x rest : List ℕ) → beyond_word word text ≡ Some rest → beyond_word word (text ++ x) ≡ Some (rest ++ x)
+unfolding beyond_word
 past-extends word [] x rest e = none-some e
 past-extends word (b ∷ bs) x rest e = go (after_word word (b ∷ bs)) refl e (λ h. past-extends word bs x rest h)
   where
     by : Option (List ℕ) → Option (List ℕ)
-    by o = elim o as (λ _. Option (List ℕ)) [ Some r ↦ Some r | None ↦ behind_word word (bs ++ x) ]
+    by o = elim o as (λ _. Option (List ℕ)) [ Some r ↦ Some r | None ↦ beyond_word word (bs ++ x) ]
 
-    go : (o : Option (List ℕ)) → after_word word (b ∷ bs) ≡ o → elim o as (λ _. Option (List ℕ)) [ Some r ↦ Some r | None ↦ behind_word word bs ] ≡ Some rest
-        → (behind_word word bs ≡ Some rest → behind_word word (bs ++ x) ≡ Some (rest ++ x)) → by (after_word word (b ∷ (bs ++ x))) ≡ Some (rest ++ x)
+    go : (o : Option (List ℕ)) → after_word word (b ∷ bs) ≡ o → elim o as (λ _. Option (List ℕ)) [ Some r ↦ Some r | None ↦ beyond_word word bs ] ≡ Some rest
+        → (beyond_word word bs ≡ Some rest → beyond_word word (bs ++ x) ≡ Some (rest ++ x)) → by (after_word word (b ∷ (bs ++ x))) ≡ Some (rest ++ x)
     go (Some r) f e k = ap by (word-extends word (b ∷ bs) x r f) ∙ ap (λ t. Some (t ++ x)) (some-same e)
     go None f e k = ap by (word-other word (b ∷ bs) x f (let l : length word ≤ length bs = past-length word bs rest e in omega (arith, l))) ∙ k e
 
@@ -84,7 +84,7 @@ unfolding from_to
 from_to-extends start end text x rest e = go (after_word start text) refl e
   where
     by : Option (List ℕ) → Option (List ℕ)
-    by o = elim o as (λ _. Option (List ℕ)) [ Some inside ↦ behind_word end inside | None ↦ None ]
+    by o = elim o as (λ _. Option (List ℕ)) [ Some inside ↦ beyond_word end inside | None ↦ None ]
 
     go : (o : Option (List ℕ)) → after_word start text ≡ o → by o ≡ Some rest → from_to start end (text ++ x) ≡ Some (rest ++ x)
     go (Some inside) f e = ap by (word-extends start text x inside f) ∙ past-extends end inside x rest e

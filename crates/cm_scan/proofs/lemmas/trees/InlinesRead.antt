@@ -13,19 +13,20 @@ use Rattle.cm_tree.specs.HeadingLevels.{all_of}
 use Rattle.cm_tree.specs.Followed.{followed_inline_step, inline_is_followed}
 use Rattle.cm_scan.specs.inlines.Delimiters.{Run, delimiters_match}
 use Rattle.cm_scan.specs.inlines.Pairing.{Item, Characters, Finished, Linked, Delimiters, Opener, Opened, bracket_text, text_before, settled_after, settled, used, emphasised, without, paired, nearest_opener, pair_leftmost, pair_once, pairs_within, pair_all, room, emphasis_of}
-use Rattle.cm_scan.specs.Words.{run_length, after_run, after_word}
+use Rattle.cm_scan.specs.Words.{run_length, after_run, after_word, given, ◌<|>◌}
 use Rattle.cm_text.specs.Unescaping.{escape}
 use Rattle.cm_text.specs.References.{reference}
 use Rattle.cm_scan.specs.spans.CodeSpans.{code_span}
 use Rattle.cm_scan.specs.inlines.Links.{Reading}
 use Rattle.cm_scan.specs.spans.RawHtml.{raw_html}
-use Rattle.cm_scan.specs.spans.Autolinks.{Autolink, autolink, link_if_followed, followed_autolink}
-use Rattle.cm_scan.specs.spans.Angles.{Angled, Addressed, Tagged, tagged, at_angle}
+use Rattle.cm_scan.specs.spans.Autolinks.{Autolink, autolink, followed_autolink}
+use Rattle.cm_scan.specs.spans.Angles.{Angled, Addressed, Tagged, at_angle}
 use Rattle.cm_scan.specs.inlines.Atoms.{Atom, Plain, Whole, Delimiter, OpenBracket, CloseBracket, AtomRead, read, link_of, backtick_atom, angle_atom, backslash_atom, reference_atom, break_atom, run_atom, tilde_atom, bang_atom, is_markup, markup_atom, byte_atom, or_byte, atom_at}
 use Rattle.cm_scan.specs.inlines.Brackets.{LinkEnd, Defined, inline_end, reference_end, end_if_followed, end_at, OpenerFound, last_opener, holds_link, made, Bracketed, bracket_is_text, brackets_are_text, source_up_to, closed_by_bracket, close_bracket}
 use Rattle.cm_scan.specs.inlines.Inlines.{add_atom, item_step, items_after, items_of, inlines_of}
 use Rattle.cm_scan.proofs.lemmas.spans.RawHtmlGoesOn.{raw-off}
 use Rattle.cm_scan.specs.laws.RuleLaws.{NoRawHtml, InlinesFollowed}
+use Rattle.cm_scan.specs.steps.SpanSteps.{link_if_followed, tagged}
 
 -- ---- any property that text and emphasis keep
 
@@ -270,7 +271,7 @@ module _ (K : Kept) where
         other None e = tt
         other (Some rest) e = tag text rest e _
 
-        judged : (link : Autolink) (t : Bool) → is_followed rules link.destination ≡ t → AngledOk (by (elim t as (λ _. Option Autolink) [ true ↦ Some link | false ↦ None ]))
+        judged : (link : Autolink) (t : Bool) → is_followed rules link.destination ≡ t → AngledOk (by (given t link))
         judged link true e = address link e
         judged link false e = other (raw_html rules text) refl
 
@@ -456,7 +457,7 @@ module _ (rules : Rules) where
   judged-end None = tt
   judged-end (Some end) = go (is_followed rules end.dest) refl
     where
-      go : (t : Bool) → is_followed rules end.dest ≡ t → EndOk (led-kept rules) (elim t [ true ↦ Some end | false ↦ None ])
+      go : (t : Bool) → is_followed rules end.dest ≡ t → EndOk (led-kept rules) (given t end)
       go true e = λ is h. (led-link end.dest end.title is e h, led-image end.dest end.title is e)
       go false e = tt
 
@@ -465,7 +466,7 @@ module _ (rules : Rules) where
   led-end defined between text = go (end_if_followed rules (inline_end text)) (judged-end (inline_end text))
     where
       go : (o : Option LinkEnd) → EndOk (led-kept rules) o
-          → EndOk (led-kept rules) (elim o [ Some end ↦ Some end | None ↦ end_if_followed rules (reference_end defined between text) ])
+          → EndOk (led-kept rules) (o <|> end_if_followed rules (reference_end defined between text))
       go (Some end) h = h
       go None h = judged-end (reference_end defined between text)
 

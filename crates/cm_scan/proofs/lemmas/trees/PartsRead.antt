@@ -2,6 +2,7 @@
 use Rattle.std.proofs.Common.{◌≡◌, ℕ, zero, suc, Bool, true, false, not, ◌||◌, List, [], ◌∷◌, ◌++◌, map, refl, ap, sym, ◌∙◌, Some, None, IfSome, arith}
 use Rattle.std.specs.Prelude.{⊤, Option, nat_le, if◌then◌else◌}
 use Rattle.std.specs.List.{list_any}
+use Rattle.std.specs.Option.{option_map}
 use Rattle.std.proofs.lemmas.Option.{none-some}
 use Rattle.cm_text.specs.Rules.{Rules}
 use Rattle.cm_text.specs.Lines.{LineView}
@@ -14,9 +15,10 @@ use Rattle.cm_scan.specs.blocks.Lines.{is_blank, content_of}
 use Rattle.cm_scan.specs.inlines.Links.{LinkDefinition, definitions_of}
 use Rattle.cm_scan.specs.blocks.LineForms.{Heading, atx_heading, opening_fence, is_thematic_break, item_marker, Fence, ItemMarker}
 use Rattle.cm_scan.specs.blocks.HtmlBlocks.{HtmlKind, html_start}
-use Rattle.cm_scan.specs.blocks.Starts.{Start, IndentedCode, QuoteMarker, AtxHeading, OpeningFence, HtmlStart, BreakLine, ItemStart, TextLine, start_of, start_by, start_of_content, seen_as, or_text, content_column, first_content, continuation_in_item}
+use Rattle.cm_scan.specs.blocks.Starts.{Start, IndentedCode, QuoteMarker, AtxHeading, OpeningFence, HtmlStart, BreakLine, ItemStart, TextLine, start_of, start_of_content, or_text, content_column, first_content, continuation_in_item}
 use Rattle.cm_scan.specs.blocks.Parts.{as_space, info_of, LeafPart, code, html, Parts, none, blank, leaf, quote, list, ItemParts, last_item, item, next_items, put_before, put_item, put_leaves}
 use Rattle.cm_scan.specs.blocks.Blocks.{TextRun, text_run, definition_leaves, content_leaf, leaves_of_run, quote_parts, item_parts, fence_parts, html_parts, code_parts, text_parts, parts_by_start, parts_by_cases, parts_within, inside}
+use Rattle.cm_scan.specs.steps.LineSteps.{start_by}
 use Rattle.cm_scan.proofs.lemmas.blocks.HtmlStarts.{no_start_without}
 
 abbrev pub IsRead : Rules → LeafPart → Type 0
@@ -110,7 +112,7 @@ module _ (rules : Rules) where
 
       first : (quoted : Bool) (atx : Option Heading) (fence : Option Fence) (kind : Option HtmlKind) (t : Bool) (marker : Option ItemMarker)
           → ((k : HtmlKind) → kind ≡ Some k → rules.raw_html ≡ true)
-          → StartRead (or_text (given quoted QuoteMarker <|> seen_as AtxHeading atx <|> seen_as OpeningFence fence <|> seen_as HtmlStart kind <|> given t BreakLine <|> seen_as ItemStart marker))
+          → StartRead (or_text (given quoted QuoteMarker <|> option_map AtxHeading atx <|> option_map OpeningFence fence <|> option_map HtmlStart kind <|> given t BreakLine <|> option_map ItemStart marker))
       first true atx fence kind t marker h = tt
       first false (Some a) fence kind t marker h = tt
       first false None (Some f) kind t marker h = tt

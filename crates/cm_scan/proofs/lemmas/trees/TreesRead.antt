@@ -3,6 +3,7 @@ use Rattle.std.proofs.Common.{◌≡◌, ℕ, Bool, true, false, not, ◌&&◌, 
 use Rattle.std.proofs.lemmas.Bool.{true≢false}
 use Rattle.cm_text.specs.Rules.{Rules}
 use Rattle.cm_text.specs.Lines.{plain_lines_of, text_of}
+use Rattle.std.specs.List.{list_any, list_all}
 use Rattle.cm_tree.specs.declared.tree.Block.{Block}
 use Rattle.cm_tree.specs.declared.tree.Block.TheFolds.{fold_out-Block}
 use Rattle.cm_tree.specs.declared.tree.Block.TheVariants.{Quote, List as ListBlock, outs-Paragraph, outs-Heading, outs-Code, outs-Html, outs-Break, outs-Definition, outs-Quote, outs-List}
@@ -10,8 +11,8 @@ use Rattle.cm_tree.specs.declared.tree.Inline.TheVariants.{outs-Text}
 use Rattle.cm_tree.specs.declared.tree.Inline.TheFolds.{fold_out-Inline}
 use Rattle.cm_tree.specs.declared.tree.ListKind.{ListKind}
 use Rattle.cm_tree.specs.RawBlocks.{raw_inlines}
-use Rattle.cm_tree.specs.RawHtml.{any_of_items, raw_inline_step, inlines_have_raw, raw_block_step, block_has_raw, blocks_have_raw}
-use Rattle.cm_tree.specs.HeadingLevels.{all_of_items}
+use Rattle.cm_tree.specs.RawHtml.{raw_inline_step, inlines_have_raw, raw_block_step, block_has_raw, blocks_have_raw, any_of}
+use Rattle.cm_tree.specs.HeadingLevels.{all_of}
 use Rattle.cm_tree.specs.Followed.{inlines_are_followed, followed_block_step, block_is_followed, blocks_are_followed}
 use Rattle.cm_scan.specs.blocks.Lines.{size}
 use Rattle.cm_scan.specs.inlines.Brackets.{Defined}
@@ -78,11 +79,11 @@ module _ (rules : Rules) (off : rules.raw_html ≡ false) where
   free = record {
     Ok = λ block. block_has_raw block ≡ false;
     All = λ blocks. blocks_have_raw blocks ≡ false;
-    Items = λ items. any_of_items (map (map block_has_raw) items) ≡ false;
+    Items = λ items. list_any any_of (map (map block_has_raw) items) ≡ false;
     nothing = refl;
     more = λ block blocks h k. neither (block_has_raw block) (blocks_have_raw blocks) h k;
     no_items = refl;
-    more_items = λ blocks items h k. neither (blocks_have_raw blocks) (any_of_items (map (map block_has_raw) items)) h k;
+    more_items = λ blocks items h k. neither (blocks_have_raw blocks) (list_any any_of (map (map block_has_raw) items)) h k;
     leaves = free-leaf;
     quotes = λ blocks h. simp (fold_out-Block Bool raw_block_step, outs-Quote) h;
     lists = λ kind tight items h. simp (fold_out-Block Bool raw_block_step, outs-List) h;
@@ -115,11 +116,11 @@ module _ (rules : Rules) (defined : Defined) where
     tree-free = record {
       Ok = λ block. block_has_raw (turned block) ≡ false;
       All = λ blocks. blocks_have_raw (map turned blocks) ≡ false;
-      Items = λ items. any_of_items (map (map block_has_raw) (map (map turned) items)) ≡ false;
+      Items = λ items. list_any any_of (map (map block_has_raw) (map (map turned) items)) ≡ false;
       nothing = refl;
       more = λ block blocks h k. neither (block_has_raw (turned block)) (blocks_have_raw (map turned blocks)) h k;
       no_items = refl;
-      more_items = λ blocks items h k. neither (blocks_have_raw (map turned blocks)) (any_of_items (map (map block_has_raw) (map (map turned) items))) h k;
+      more_items = λ blocks items h k. neither (blocks_have_raw (map turned blocks)) (list_any any_of (map (map block_has_raw) (map (map turned) items))) h k;
       leaves = tree-leaf-free;
       quotes = λ blocks h. simp (fold_out-Block Block (read_step rules defined), fold_out-Block Bool raw_block_step, outs-Quote) h;
       lists = λ kind tight items h. simp (fold_out-Block Block (read_step rules defined), fold_out-Block Bool raw_block_step, outs-List) h;
@@ -143,11 +144,11 @@ module _ (rules : Rules) (defined : Defined) where
   followed = record {
     Ok = λ block. block_is_followed rules (turned block) ≡ true;
     All = λ blocks. blocks_are_followed rules (map turned blocks) ≡ true;
-    Items = λ items. all_of_items (map (map (block_is_followed rules)) (map (map turned) items)) ≡ true;
+    Items = λ items. list_all all_of (map (map (block_is_followed rules)) (map (map turned) items)) ≡ true;
     nothing = refl;
     more = λ block blocks h k. both (block_is_followed rules (turned block)) (blocks_are_followed rules (map turned blocks)) h k;
     no_items = refl;
-    more_items = λ blocks items h k. both (blocks_are_followed rules (map turned blocks)) (all_of_items (map (map (block_is_followed rules)) (map (map turned) items))) h k;
+    more_items = λ blocks items h k. both (blocks_are_followed rules (map turned blocks)) (list_all all_of (map (map (block_is_followed rules)) (map (map turned) items))) h k;
     leaves = leaf-followed;
     quotes = λ blocks h. simp (fold_out-Block Block (read_step rules defined), fold_out-Block Bool (followed_block_step rules), outs-Quote) h;
     lists = λ kind tight items h. simp (fold_out-Block Block (read_step rules defined), fold_out-Block Bool (followed_block_step rules), outs-List) h;

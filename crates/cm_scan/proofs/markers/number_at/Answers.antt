@@ -1,7 +1,7 @@
 use Rattle.std.proofs.Common.{◌≡◌, ◌+◌, ◌-◌, ◌∙◌, true, false, get_or, length, sym, ap, arith}
 use Rattle.std.specs.List.{fold}
+use Rattle.std.specs.Char.{is_ascii_digit}
 use Rattle.std.proofs.lemmas.Grind.{common_steps}
-use Rattle.cm_scan.specs.Words.{is_digit}
 use Rattle.cm_scan.specs.steps.LineSteps.{with_digit}
 use Rattle.cm_scan.proofs.lemmas.blocks.MarkerLemmas.{bound, bound_step, bound_most, front_step, skip_step, front_stop, front_end}
 use Rattle.cm_scan.proofs.markers.number_at.Goals as goal
@@ -11,14 +11,14 @@ overflow_mul-number c = omega (arith, c.loop-end.invariant.fits, bound_most (c.l
 
 pub overflow_add-number : goal.overflow_add-number
 overflow_add-number c =
-    let digit : is_digit (get_or c.as_bytes-bytes.result.now c.loop-end.end 0) ≡ true = sym c.is_digit.ensures ∙ c.if-is_digit.true in
+    let digit : is_ascii_digit (get_or c.as_bytes-bytes.result.now c.loop-end.end 0) ≡ true = sym c.is_digit.ensures ∙ c.if-is_digit.true in
     grind (arith, digit, c.loop-end.invariant.fits, bound_most (c.loop-end.end - c.args.at) (omega arith))
 
 pub loop-end-preserved : goal.loop-end-preserved
 loop-end-preserved c =
     let bytes = c.as_bytes-bytes.result.now in
     let end = c.loop-end.end in
-    let digit : is_digit (get_or bytes end 0) ≡ true = sym c.is_digit.ensures ∙ c.if-is_digit.true in
+    let digit : is_ascii_digit (get_or bytes end 0) ≡ true = sym c.is_digit.ensures ∙ c.if-is_digit.true in
     let more = front_step bytes end (omega arith) digit in
     let next : end + 1 - c.args.at ≡ end - c.args.at + 1 = omega arith in
     record {
@@ -34,7 +34,7 @@ loop-end-preserved c =
 pub returns-else-is_digit-clause-whole : goal.returns-else-is_digit-clause-whole
 returns-else-is_digit-clause-whole c =
     let bytes = c.as_bytes-bytes.result.now in
-    let other : is_digit (get_or bytes c.loop-end.end 0) ≡ false = sym c.is_digit.ensures ∙ c.if-is_digit.false in
+    let other : is_ascii_digit (get_or bytes c.loop-end.end 0) ≡ false = sym c.is_digit.ensures ∙ c.if-is_digit.false in
     λ _. rw (sym c.as_bytes-bytes.ensures.value) (front_stop bytes c.loop-end.end (omega arith) other)
 
 pub returns-after-loop-end-clause-whole : goal.returns-after-loop-end-clause-whole

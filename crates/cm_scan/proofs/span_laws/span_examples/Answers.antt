@@ -1,14 +1,15 @@
 use Rattle.std.proofs.Common.{refl}
-use Rattle.cm_scan.specs.spans.Autolinks.{in_angles, is_scheme, is_absolute, labels, ends_with, is_host_label, is_address, as_autolink, autolink}
+use Rattle.cm_scan.specs.spans.Autolinks.{in_angles, is_scheme, is_absolute, ends_with, is_host_label, is_address, as_autolink, autolink}
 use Rattle.cm_scan.specs.spans.CodeSpans.{up_to_run, but_last, stripped, code_span}
 use Rattle.cm_scan.specs.Words.{run_length, after_run, skip, front_of, after_word}
 use Rattle.cm_scan.specs.spans.Tags.{after_gap, tag_name, after_quoted, after_unquoted, after_value, after_specification, after_attribute, after_tag_end, after_attributes, open_tag, closing_tag}
-use Rattle.cm_scan.specs.spans.RawHtml.{behind_word, from_to, short_end, after_comment, comment, after_declaration, declaration, html_tag, raw_html}
-use Rattle.cm_scan.specs.laws.SpanExamples.{RawHtmlExamples, OlderExamples, AutolinkExamples, CodeSpanExamples}
+use Rattle.cm_scan.specs.spans.RawHtml.{beyond_word, from_to, short_end, after_comment, comment, after_declaration, declaration, html_tag, raw_html}
+use Rattle.cm_scan.specs.spans.Reach.{tag_reach, mark_reach, html_reach, declared, needed_after_mark, needed}
+use Rattle.cm_scan.specs.laws.SpanExamples.{RawHtmlExamples, ReachExamples, OlderExamples, AutolinkExamples, CodeSpanExamples}
 use Rattle.cm_scan.proofs.span_laws.span_examples.Goals as goal
 
 read : RawHtmlExamples
-unfolding skip front_of after_word after_gap tag_name after_quoted after_unquoted after_value after_specification after_attribute after_tag_end after_attributes open_tag closing_tag behind_word from_to short_end after_comment comment after_declaration declaration html_tag raw_html
+unfolding skip front_of after_word after_gap tag_name after_quoted after_unquoted after_value after_specification after_attribute after_tag_end after_attributes open_tag closing_tag beyond_word from_to short_end after_comment comment after_declaration declaration html_tag raw_html
 read = record {
   open_tag = refl;
   closed_at_once = refl;
@@ -38,7 +39,7 @@ read = record {
 }
 
 older : OlderExamples
-unfolding skip front_of after_word after_gap tag_name after_quoted after_unquoted after_value after_specification after_attribute after_tag_end after_attributes open_tag closing_tag behind_word from_to short_end after_comment comment after_declaration declaration html_tag raw_html
+unfolding skip front_of after_word after_gap tag_name after_quoted after_unquoted after_value after_specification after_attribute after_tag_end after_attributes open_tag closing_tag beyond_word from_to short_end after_comment comment after_declaration declaration html_tag raw_html
 older = record {
   comment = refl;
   empty_comment = refl;
@@ -56,7 +57,7 @@ pub returns-clause-older : goal.returns-clause-older
 returns-clause-older c = older
 
 links : AutolinkExamples
-unfolding skip front_of after_word run_length after_run in_angles is_scheme is_absolute labels ends_with is_host_label is_address as_autolink autolink up_to_run but_last stripped code_span
+unfolding skip front_of after_word run_length after_run in_angles is_scheme is_absolute ends_with is_host_label is_address as_autolink autolink up_to_run but_last stripped code_span
 links = record {
   absolute = refl;
   made_up_scheme = refl;
@@ -74,8 +75,24 @@ links = record {
   nothing = refl;
 }
 
+reach : ReachExamples
+unfolding after_word beyond_word tag_reach mark_reach html_reach declared needed_after_mark needed
+reach = record {
+  up_to_its_end = refl;
+  quoted_bracket = refl;
+  next_tag = refl;
+  open_quotation = refl;
+  comment = refl;
+  open_comment = refl;
+  older_comment = refl;
+  older_comment_needs_nothing = refl;
+  declaration = refl;
+  no_declaration = refl;
+  tag = refl;
+}
+
 spans : CodeSpanExamples
-unfolding skip front_of after_word run_length after_run in_angles is_scheme is_absolute labels ends_with is_host_label is_address as_autolink autolink up_to_run but_last stripped code_span
+unfolding skip front_of after_word run_length after_run in_angles is_scheme is_absolute ends_with is_host_label is_address as_autolink autolink up_to_run but_last stripped code_span
 spans = record {
   one = refl;
   longer_run_inside = refl;
@@ -94,3 +111,6 @@ returns-clause-links c = links
 
 pub returns-clause-spans : goal.returns-clause-spans
 returns-clause-spans c = spans
+
+pub returns-clause-reach : goal.returns-clause-reach
+returns-clause-reach c = reach

@@ -21,8 +21,8 @@ returns-else-bytes-end-clause-end c =
     let stop = run_stop c.args.marker bytes c.loop-end.end (omega arith) c.if-bytes-end.false in
     rw (sym c.as_bytes-bytes.ensures.value) (omega (arith, c.loop-end.invariant.counted, stop))
 
-pub returns-else-bytes-end-clause-behind : goal.returns-else-bytes-end-clause-behind
-returns-else-bytes-end-clause-behind c =
+pub returns-else-bytes-end-clause-beyond : goal.returns-else-bytes-end-clause-beyond
+returns-else-bytes-end-clause-beyond c =
     let bytes = c.as_bytes-bytes.result.now in
     rw (sym c.as_bytes-bytes.ensures.value) (sym (after_stop c.args.marker bytes c.loop-end.end (omega arith) c.if-bytes-end.false) ∙ c.loop-end.invariant.left)
 
@@ -32,7 +32,7 @@ returns-after-loop-end-clause-end c =
     let end = run_end c.args.marker bytes c.loop-end.end (omega arith) in
     rw (sym c.as_bytes-bytes.ensures.value) (omega (arith, c.loop-end.invariant.counted, end))
 
-pub returns-after-loop-end-clause-behind : goal.returns-after-loop-end-clause-behind
-returns-after-loop-end-clause-behind c =
+pub returns-after-loop-end-clause-beyond : goal.returns-after-loop-end-clause-beyond
+returns-after-loop-end-clause-beyond c =
     let bytes = c.as_bytes-bytes.result.now in
     rw (sym c.as_bytes-bytes.ensures.value) (sym (after_end c.args.marker bytes c.loop-end.end (omega arith)) ∙ c.loop-end.invariant.left)

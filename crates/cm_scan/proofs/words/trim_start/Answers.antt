@@ -22,12 +22,13 @@ loop-start-preserved c =
     }
 
 pub returns : goal.returns
-returns c =
-    let bytes = c.as_bytes-bytes.result.now in
-    let start = c.loop-start.start in
-    elim c.loop-start-test.branch [
-      | then-loop-start-test+else-is_space_or_tab w ↦
-          let other : is_space_or_tab (get_or bytes start 0) ≡ false = sym w.is_space_or_tab.ensures ∙ w.if-is_space_or_tab.false in
-          grind (arith, common_steps, trim_start-stop bytes start (omega arith) other)
-      | else-loop-start-test w ↦ grind (arith, common_steps, trim_start-end bytes start (omega arith))
-    ]
+returns c = record {
+  trimmed = let bytes = c.as_bytes-bytes.result.now in
+      let start = c.loop-start.start in
+      elim c.loop-start-test.branch [
+        | then-loop-start-test+else-is_space_or_tab w ↦
+            let other : is_space_or_tab (get_or bytes start 0) ≡ false = sym w.is_space_or_tab.ensures ∙ w.if-is_space_or_tab.false in
+            grind (arith, common_steps, trim_start-stop bytes start (omega arith) other)
+        | else-loop-start-test w ↦ grind (arith, common_steps, trim_start-end bytes start (omega arith))
+      ];
+}

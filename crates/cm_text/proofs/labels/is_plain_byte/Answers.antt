@@ -1,6 +1,6 @@
 use Rattle.std.proofs.Common.{◌==◌, get_or, refl, arith}
 use Rattle.std.proofs.lemmas.Bool.{agree_below_at}
-use Rattle.cm_text.specs.steps.LabelSteps.{is_plain_byte}
+use Rattle.cm_text.specs.PlainLabels.{is_plain_byte}
 use Rattle.cm_text.specs.declared.labels.TheConstants.{PLAIN}
 use Rattle.cm_text.proofs.labels.is_plain_byte.Goals as goal
 

@@ -1,5 +1,5 @@
 use Rattle.std.proofs.Common.{◌≡◌, drop}
-use Rattle.cm_text.specs.steps.LabelNumbers.{number_from, number_of}
+use Rattle.cm_text.specs.LabelNumbers.{number_from, number_of}
 use Rattle.cm_text.proofs.labels.label_number.Given as goal
 
 -- what was read and what is left come to the label's number

@@ -1,5 +1,6 @@
 use Rattle.std.proofs.Common.{ap, sym, ◌∙◌, ◌++◌, string_bytes, arith}
 use Rattle.std.proofs.lemmas.Grind.{common_steps}
+use Rattle.cm_text.specs.Trims.{skip}
 use Rattle.cm_text.proofs.lemmas.LabelLemmas.{none_read, gap_read, char_read}
 use Rattle.cm_text.proofs.labels.settle_gaps.Goals as goal
 
@@ -19,4 +20,5 @@ loop-c-preserved c =
     ∙ c.loop-c.invariant
 
 pub returns : goal.returns
-returns c = grind (arith, common_steps)
+unfolding skip
+returns c = record { settled = grind (arith, common_steps) }

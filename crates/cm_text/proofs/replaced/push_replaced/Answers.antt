@@ -24,6 +24,7 @@ loop-at-preserved g c =
     (c.cut_at.ensures.after_utf8, grind (arith, common_steps, c.loop-at.invariant.1, cut))
 
 pub returns : goal.returns
-returns g c =
-    let none : position g.K.ByteKind.passes c.loop-at.rest.now ≡ None = cc in
-    grind (arith, common_steps, c.loop-at.invariant.1, replaced-none g.K.ByteKind.passes g.K.Replaced.written c.requires.others c.loop-at.rest.now none)
+returns g c = record {
+  replaced = let none : position g.K.ByteKind.passes c.loop-at.rest.now ≡ None = cc in
+      grind (arith, common_steps, c.loop-at.invariant.1, replaced-none g.K.ByteKind.passes g.K.Replaced.written c.requires.others c.loop-at.rest.now none);
+}

@@ -48,7 +48,7 @@ loop-first-preserved c =
           (i.first ∙ ap (λ n. a.len + next_spaces a.count n) (sym i.spaces)) (found.first c.loop-first-test.true)
           (ap begins_text (bytes c.loop-first.first) ∙ found.begins c.loop-first-test.true)
           (λ k below. spaces_first text k (omega (arith, below, i.spaces, c.leading_spaces-spaces.ensures.spaces)))
-          refl c.utf8.text (subst (IsFirstLine c.line_len.result) c.range_from.ensures.value c.line_len.ensures));
+          refl c.utf8.text (subst (IsFirstLine c.line_len.result) c.range_from.ensures.value c.line_len.ensures.line));
       first = omega (arith, no_spaces a.count c.leading_spaces-spaces.result);
       spaces = refl;
       few = omega (arith, i.few);

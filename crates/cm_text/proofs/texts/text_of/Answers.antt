@@ -15,6 +15,7 @@ loop-at-preserved c =
     )
 
 pub returns : goal.returns
-returns c =
-    let whole = nul-nowhere c.as_bytes.result.now c.in_default.ensures in
-    grind (arith, common_steps, c.loop-at.invariant.1, whole)
+returns c = record {
+  text = let whole = nul-nowhere c.as_bytes.result.now c.in_default.ensures in
+      grind (arith, common_steps, c.loop-at.invariant.1, whole);
+}

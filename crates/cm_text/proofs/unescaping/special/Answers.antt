@@ -3,7 +3,7 @@ use Rattle.cm_text.proofs.lemmas.UnescapingLemmas.{special-escape, special-refer
 use Rattle.cm_text.proofs.unescaping.special.Goals as goal
 
 pub returns-in-Some : goal.returns-in-Some
-returns-in-Some c = special-escape c.args.text.now (c.in-Some.first ∷ []) 2 c.in-Some.ensures
+returns-in-Some c = record { read = special-escape c.args.text.now (c.in-Some.first ∷ []) 2 c.in-Some.ensures.read }
 
 pub returns : goal.returns
-returns c = c.reference.ensures ∙ sym (special-reference c.args.text.now c.in_default.ensures)
+returns c = record { read = c.reference.ensures.read ∙ sym (special-reference c.args.text.now c.in_default.ensures.read) }

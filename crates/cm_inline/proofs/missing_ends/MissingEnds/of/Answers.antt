@@ -1,5 +1,5 @@
-use Rattle.cm_inline.proofs.lemmas.MissingEndsLemmas.{known-at-end}
+use Rattle.cm_inline.proofs.lemmas.MissingForms.{known-at-end}
 use Rattle.cm_inline.proofs.missing_ends.MissingEnds.of.Goals as goal
 
 pub returns : goal.returns
-returns c = known-at-end c.args.source.now
+returns c = record { knows = known-at-end c.args.source.now }

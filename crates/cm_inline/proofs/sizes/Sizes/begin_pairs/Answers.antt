@@ -1,5 +1,5 @@
 use Rattle.cm_inline.proofs.lemmas.Words.{arith, Pair}
-use Rattle.cm_inline.specs.declared.runs.Emphasis.TheVariants.{Emph}
+use Rattle.cm_inline.specs.declared.pairing.Emphasis.TheVariants.{Emph}
 use Rattle.cm_inline.proofs.lemmas.TagLemmas.{starts-next}
 use Rattle.cm_inline.proofs.sizes.Sizes.begin_pairs.Goals as goal
 

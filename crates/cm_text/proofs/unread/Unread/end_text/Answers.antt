@@ -15,7 +15,7 @@ returns-then-is_empty-clause-ok c =
 pub returns-then-ends_a_line-clause-ok : goal.returns-then-ends_a_line-clause-ok
 returns-then-ends_a_line-clause-ok c =
     let u = c.args.self.now in
-    none_open u.after_return (drop u.passed (string_bytes u.text)) (sym (ap ends_a_line c.rest-rest.ensures) ∙ sym c.ends_a_line.ensures ∙ c.if-ends_a_line.true)
+    none_open u.after_return (drop u.passed (string_bytes u.text)) (sym (ap ends_a_line c.rest-rest.ensures) ∙ sym c.ends_a_line.ensures.ends ∙ c.if-ends_a_line.true)
 
 pub returns-clause-ok : goal.returns-clause-ok
 returns-clause-ok c =
@@ -25,4 +25,4 @@ returns-clause-ok c =
     omega (arith, ap length c.rest-rest.ensures, eqb-false (length c.rest-rest.result.now) 0 (sym c.is_empty.ensures ∙ c.if-is_empty.false)) in
     on_ok_weaker c.go_on.result
     (λ done. ap (λ (d : Cut). d.ended) done
-    ∙ last_ends u.after_return rest some (sym (ap ends_a_line c.rest-rest.ensures) ∙ sym c.ends_a_line.ensures ∙ c.if-ends_a_line.false)) c.go_on.ensures.ok
+    ∙ last_ends u.after_return rest some (sym (ap ends_a_line c.rest-rest.ensures) ∙ sym c.ends_a_line.ensures.ends ∙ c.if-ends_a_line.false)) c.go_on.ensures.ok

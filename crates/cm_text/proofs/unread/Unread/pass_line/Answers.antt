@@ -25,8 +25,8 @@ returns-clause-cut c =
     let u = c.args.self.now in
     let within : u.line < length (drop u.passed (string_bytes u.text)) = omega (arith, c.if-self-rest.false, ap length c.rest-rest.ensures, u.first.within) in
     let p = c.past_line_feed-passed.result in
-    let behind = u.passed + u.line + 1 in
-    let P : List ℕ → Type 0 = λ t. cut_more (begun (get_or c.as_bytes.result.now u.line 0 == 13)) (drop behind t) ≡ cut_more (begun p.1) (drop p.0 t) in
+    let beyond = u.passed + u.line + 1 in
+    let P : List ℕ → Type 0 = λ t. cut_more (begun (get_or c.as_bytes.result.now u.line 0 == 13)) (drop beyond t) ≡ cut_more (begun p.1) (drop p.0 t) in
     sym (subst P c.deref.ensures c.past_line_feed-passed.ensures.same)
-    ∙ ap (λ t. cut_more (begun (get_or t u.line 0 == 13)) (drop behind (string_bytes u.text))) (c.as_bytes.ensures.value ∙ c.rest-rest.ensures)
+    ∙ ap (λ t. cut_more (begun (get_or t u.line 0 == 13)) (drop beyond (string_bytes u.text))) (c.as_bytes.ensures.value ∙ c.rest-rest.ensures)
     ∙ passed_by u.after_return (string_bytes u.text) u.passed u.line u.waits u.first within

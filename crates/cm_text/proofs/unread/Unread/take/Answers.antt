@@ -12,4 +12,4 @@ returns-in-None-clause-ok c =
 
 pub returns-in_ok-text-in-Some-clause-len : goal.returns-in_ok-text-in-Some-clause-len
 returns-in_ok-text-in-Some-clause-len c =
-    omega (arith, c.go_on-in-Some.ensures.len, text_of-length c.args.more.now, ap length c.deref.ensures, ap length c.in_ok-text-in-Some.ensures)
+    omega (arith, c.go_on-in-Some.ensures.len, text_of-length c.args.more.now, ap length c.deref.ensures, ap length c.in_ok-text-in-Some.ensures.text)
