@@ -54,3 +54,8 @@ pub mod OwnerRunLemmas
 pub mod FrontLemmas
 pub mod InfoLemmas
 pub mod ItemContinuations
+pub mod TextSizes
+pub mod ReadSizes
+pub mod PartSizes
+pub mod ResolvedSizes
+pub mod DocumentSizes

@@ -8,10 +8,10 @@ use Rattle.cm_block.specs.declared.fault.BlockFault.TheVariants.{BlocksTooDeep, 
 -- a fault of the raw blocks, as the parser returns it
 abbrev pub block_fault : RawFault → BlockFault
 block_fault raw.NoMemory = NoMemory
-block_fault raw.TooLarge = TooLarge
+block_fault (raw.TooLarge place) = TooLarge place
 
--- memory was refused, or a place would need more than 32 bits
+-- memory was refused, or a place among raw blocks needs more than 32 bits; only the calls of `RawBlocks` say so
 abbrev pub IsTooMuch : BlockFault → Type 0
 IsTooMuch NoMemory = ⊤
-IsTooMuch TooLarge = ⊤
+IsTooMuch (TooLarge place) = ⊤
 IsTooMuch (BlocksTooDeep line) = ⊥

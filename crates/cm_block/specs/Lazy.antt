@@ -3,7 +3,7 @@
 use Rattle.std.specs.Prelude.{◌≡◌, Bool, true, false}
 use Rattle.cm_text.specs.Rules.{Rules}
 use Rattle.cm_text.specs.Lines.{LineView}
-use Rattle.cm_text.specs.TextLines.{is_text_behind}
+use Rattle.cm_text.specs.TextLines.{is_text_after}
 use Rattle.cm_scan.specs.blocks.Lines.{is_blank, content_of}
 use Rattle.cm_scan.specs.blocks.Blocks.{add_text}
 use Rattle.cm_block.specs.OpenLeaf.{OpenLeaf, open_text}
@@ -30,4 +30,4 @@ LazyLine = (rules : Rules) (line : LineView) (in_a_quote : Bool) (s : Owned) (v 
 -- So is a line whose content begins as text, whatever its indentation.
 abbrev pub TextGoesOn : Type 0
 TextGoesOn = (rules : Rules) (line : LineView) (in_a_quote : Bool) (s : Owned) (v : Level) (now : Open Level)
-    → is_text_behind 0 (content_of line) ≡ true → has_open_text now ≡ true → push_in rules in_a_quote s v now line ≡ stack v (with_text now line) s
+    → is_text_after 0 (content_of line) ≡ true → has_open_text now ≡ true → push_in rules in_a_quote s v now line ≡ stack v (with_text now line) s

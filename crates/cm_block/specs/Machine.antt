@@ -7,7 +7,7 @@ use Rattle.cm_scan.specs.blocks.Lines.{is_blank, marks}
 use Rattle.cm_scan.specs.blocks.Parts.{LeafPart, Parts, none, blank, leaf, quote, put_item}
 use Rattle.cm_scan.specs.blocks.Starts.{continuation_in_quote, continuation_in_item}
 use Rattle.cm_scan.specs.laws.PartLaws.{goes_inward}
-use Rattle.cm_block.specs.OpenLeaf.{OpenLeaf, no_leaf, closed_leaves, blank_lines_behind, is_open_text, LeafLine, stays_open, is_last, line_of_leaf, LineOpens, begins_nothing, begins_leaf, begins_quote, begins_item, begin_of}
+use Rattle.cm_block.specs.OpenLeaf.{OpenLeaf, no_leaf, closed_leaves, blank_lines_after, is_open_text, LeafLine, stays_open, is_last, line_of_leaf, LineOpens, begins_nothing, begins_leaf, begins_quote, begins_item, begin_of}
 
 -- A part that is closed at one level: a blank line, a leaf with its number of lines, a block quote, a list item.
 pub data ClosedPart : Type 0 where
@@ -55,7 +55,7 @@ parts_of_leaves (x ∷ xs) = closed_leaf x.0 x.1 ∷ parts_of_leaves xs
 
 -- what the open block gives when it is closed
 unfoldable pub closing : Open (List ClosedPart) → List ClosedPart
-closing (in_leaf x) = parts_of_leaves (closed_leaves x) ++ replicate (blank_lines_behind x) closed_blank
+closing (in_leaf x) = parts_of_leaves (closed_leaves x) ++ replicate (blank_lines_after x) closed_blank
 closing (in_quote closed now) = closed_quote (put_all (closed ++ closing now) none) ∷ []
 closing (in_item kind column bare closed now) = closed_item kind (put_all (closed ++ closing now) none) ∷ []
 

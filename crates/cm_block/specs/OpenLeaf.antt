@@ -8,7 +8,7 @@ use Rattle.cm_tree.specs.declared.tree.ListKind.{ListKind}
 use Rattle.cm_scan.specs.blocks.Lines.{is_blank, content_of, with_ending}
 use Rattle.cm_scan.specs.blocks.LineForms.{Fence}
 use Rattle.cm_scan.specs.blocks.HtmlBlocks.{HtmlKind, is_html_end, ends_at_blank_line}
-use Rattle.cm_scan.specs.blocks.Starts.{Start, IndentedCode, QuoteMarker, AtxHeading, OpeningFence, HtmlStart, BreakLine, ItemStart, TextLine, start_of, behind_quote_marker, content_column, first_content}
+use Rattle.cm_scan.specs.blocks.Starts.{Start, IndentedCode, QuoteMarker, AtxHeading, OpeningFence, HtmlStart, BreakLine, ItemStart, TextLine, start_of, after_quote_marker, content_column, first_content}
 use Rattle.cm_scan.specs.blocks.Parts.{info_of, LeafPart, heading, code, html, thematic_break}
 use Rattle.cm_scan.specs.blocks.Blocks.{add_text, NextLine, GoesOn, Ends, Underlines, next_line, leaves_of_run, closes_fence, code_line}
 
@@ -34,9 +34,9 @@ closed_leaves (open_fence fence columns text lines) = (code fence.info text, lin
 closed_leaves (open_html kind text lines) = (html text, lines) ∷ []
 
 -- how many blank lines follow these leaves then
-abbrev pub blank_lines_behind : OpenLeaf → ℕ
-blank_lines_behind (open_code text lines blank_text blank_lines) = blank_lines
-blank_lines_behind _ = 0
+abbrev pub blank_lines_after : OpenLeaf → ℕ
+blank_lines_after (open_code text lines blank_text blank_lines) = blank_lines
+blank_lines_after _ = 0
 
 -- no leaf is open
 abbrev pub is_no_leaf : OpenLeaf → Bool
@@ -102,7 +102,7 @@ open_as rules fence = record fence { info = info_of rules fence.info }
 -- the same, given the start of the line
 abbrev pub begin_of_start : Rules → Start → LineView → LineOpens
 begin_of_start rules IndentedCode line = begins_leaf (stays_open (open_code (code_line line) 1 [] 0))
-begin_of_start rules QuoteMarker line = begins_quote (behind_quote_marker line)
+begin_of_start rules QuoteMarker line = begins_quote (after_quote_marker line)
 begin_of_start rules (AtxHeading h) line = begins_leaf (is_last ((heading h.level h.content, 1) ∷ []))
 begin_of_start rules (OpeningFence fence) line = begins_leaf (stays_open (open_fence (open_as rules fence) (indent_of line) [] 1))
 begin_of_start rules (HtmlStart kind) line = begins_leaf (line_of_html kind [] 0 line (is_html_end kind line.text))

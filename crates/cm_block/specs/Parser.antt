@@ -42,7 +42,7 @@ pub record HasTaken (parser : code.BlockParser) (lines : List LineView) : Type 0
 abbrev pub TellsDepth : BlockFault → LimitsView → List LineView → Type 0
 TellsDepth (BlocksTooDeep line) limits lines = first_too_deep limits.rules limits.blocks lines ≡ Some line
 TellsDepth NoMemory limits lines = ⊤
-TellsDepth TooLarge limits lines = ⊤
+TellsDepth (TooLarge place) limits lines = ⊤
 
 -- the outline has the blocks, the owners and the link reference definitions of these lines
 pub record OutlineOf (outline : Outline) (rules : Rules) (lines : List LineView) : Type 0 where

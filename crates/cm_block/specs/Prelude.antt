@@ -1,4 +1,5 @@
 -- Names of the crates below that the contracts of this crate use often. It defines nothing.
+pub use Rattle.std.specs.Option.{option_map}
 pub use Rattle.cm_scan.specs.blocks.Blocks.{add_text, closes_fence, content_leaf, definition_leaves, line_count, line_feeds, next_line, rest_of}
 pub use Rattle.cm_scan.specs.blocks.HtmlBlocks.{ends_at_blank_line, html_start, is_at_letter, is_html_end}
 pub use Rattle.cm_scan.specs.blocks.HtmlKinds.{kind_of}
@@ -7,7 +8,7 @@ pub use Rattle.cm_scan.specs.blocks.LineForms.{atx_heading, is_thematic_break, i
 pub use Rattle.cm_scan.specs.blocks.Lines.{as_lazy, content_of, is_blank, with_ending}
 pub use Rattle.cm_scan.specs.inlines.Links.{definitions_of, link_definition}
 pub use Rattle.cm_scan.specs.blocks.Parts.{as_space, code, definition, html, info_of, leaf_block}
-pub use Rattle.cm_scan.specs.blocks.Starts.{BreakLine, HtmlStart, ItemStart, QuoteMarker, behind_marker, behind_quote_marker, can_interrupt, content_column, content_offset, first_content, interrupts_paragraph, may_be_lazy, or_text, continuation_if_lazy, continuation_in_item, continuation_in_quote, seen_as, start_of, start_of_content, starts_at_one, underline_of}
+pub use Rattle.cm_scan.specs.blocks.Starts.{BreakLine, HtmlStart, ItemStart, QuoteMarker, after_marker, after_quote_marker, can_interrupt, content_column, content_offset, first_content, interrupts_paragraph, may_be_lazy, or_text, continuation_if_lazy, continuation_in_item, continuation_in_quote, start_of, start_of_content, starts_at_one, underline_of}
 pub use Rattle.cm_scan.specs.Words.{given, is_blank_text, is_empty, run_length, trim_end, ◌<|>◌}
 pub use Rattle.cm_text.specs.Answers.{answer_after}
 pub use Rattle.cm_text.specs.Indentation.{indent_of, strip_columns}

@@ -15,7 +15,7 @@ use Rattle.cm_scan.specs.blocks.Lines.{is_blank, marks}
 use Rattle.cm_scan.specs.blocks.Parts.{LeafPart, definition, leaf_block}
 use Rattle.cm_scan.specs.blocks.Starts.{continuation_in_quote, continuation_in_item}
 use Rattle.cm_scan.specs.laws.PartLaws.{goes_inward}
-use Rattle.cm_block.specs.OpenLeaf.{OpenLeaf, no_leaf, closed_leaves, blank_lines_behind, LeafLine, stays_open, is_last, line_of_leaf, LineOpens, begins_nothing, begins_leaf, begins_quote, begins_item, begin_of}
+use Rattle.cm_block.specs.OpenLeaf.{OpenLeaf, no_leaf, closed_leaves, blank_lines_after, LeafLine, stays_open, is_last, line_of_leaf, LineOpens, begins_nothing, begins_leaf, begins_quote, begins_item, begin_of}
 use Rattle.cm_block.specs.Machine.{Open, in_leaf, in_quote, in_item, has_open_text}
 use Rattle.cm_block.specs.Level.{Level, empty_level, closed_blocks, push_blank, block_opens, item_opens, block_closes, Item, item_closes}
 
@@ -56,7 +56,7 @@ item_of inside = record { blocks = closed_blocks inside; ends_blank = inside.end
 
 -- the level once what is open in it is closed
 unfoldable pub close_open : Level → Open Level → Level
-close_open level (in_leaf x) = push_blanks (blank_lines_behind x) (close_leaves level (closed_leaves x))
+close_open level (in_leaf x) = push_blanks (blank_lines_after x) (close_leaves level (closed_leaves x))
 close_open level (in_quote inside now) = block_closes level (Quote (closed_blocks (close_open inside now)))
 close_open level (in_item kind column bare inside now) = item_closes level (item_of (close_open inside now))
 
@@ -88,7 +88,7 @@ own_blanks in_a_quote (suc n) owned = own_blanks in_a_quote n (own_lines owned (
 
 -- the owners and the table once what is open is closed
 unfoldable pub own_open : (in_a_quote : Bool) → Owned → Open Level → Owned
-own_open in_a_quote owned (in_leaf x) = own_blanks in_a_quote (blank_lines_behind x) (own_leaves owned (closed_leaves x))
+own_open in_a_quote owned (in_leaf x) = own_blanks in_a_quote (blank_lines_after x) (own_leaves owned (closed_leaves x))
 own_open in_a_quote owned (in_quote inside now) = own_open true owned now
 own_open in_a_quote owned (in_item kind column bare inside now) = own_open in_a_quote owned now
 

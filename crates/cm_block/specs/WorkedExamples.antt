@@ -27,8 +27,8 @@ abbrev pub opened_level : Level
 opened_level = block_opens empty_level
 
 -- the level of the document after a quote of one definition and a blank line, where a paragraph has been opened
-abbrev pub behind_a_definition : Level
-behind_a_definition = block_opens (push_blank (block_closes opened_level (Quote (Definition (codes "a") (codes "/u") [] ∷ []))))
+abbrev pub after_a_definition : Level
+after_a_definition = block_opens (push_blank (block_closes opened_level (Quote (Definition (codes "a") (codes "/u") [] ∷ []))))
 
 -- only the label `a` is defined, with this target
 abbrev pub one_target : Targets
@@ -61,7 +61,7 @@ pub record StackExamples : Type 0 where
       (in_item (Dot 1) 3 false (record { blocks = text_paragraph (codes "a") ∷ []; open_list = None; has_block = true; ends_blank = false; separated = true }) (in_leaf (open_text (codes "b"))))
       (Leaf 1 ∷ Blank ∷ []) 1 []
   pub blank_line_of_a_quote : Holds (codes "> a\n>\n") opened_level (in_quote (push_blank (block_closes opened_level (text_paragraph (codes "a")))) (in_leaf no_leaf)) (Leaf 1 ∷ Marker ∷ []) 1 []
-  pub definition_in_a_quote : Holds (codes "> [a]: /u\n\nb\n") behind_a_definition (in_leaf (open_text (codes "b"))) (Leaf 1 ∷ Blank ∷ []) 1 one_target
+  pub definition_in_a_quote : Holds (codes "> [a]: /u\n\nb\n") after_a_definition (in_leaf (open_text (codes "b"))) (Leaf 1 ∷ Blank ∷ []) 1 one_target
   pub definition_still_open : Holds (codes "[a]: /u\n") opened_level (in_leaf (open_text (codes "[a]: /u"))) [] 0 []
   pub first_definition_counts : (close_stack (push_lines profile empty_stack (plain_lines_of (codes "[a]: /u\n\n> [A]: /v\n")))).definitions ≡ one_target
   pub containers : container_count (two_items_in_a_quote ∷ ListBlock (Dot 1) true ((text_paragraph (codes "c") ∷ []) ∷ []) ∷ text_paragraph (codes "d") ∷ []) ≡ 4

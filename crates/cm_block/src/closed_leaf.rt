@@ -20,14 +20,6 @@ use cm_text::unescape_or_lend;
 use cm_tree::RawFault;
 use std::alloc::Global;
 
-/// The number of lines of a leaf with `feeds` line feeds in its text and `more` lines besides.
-fn count_lines(feeds: usize, more: usize) -> Result<usize, RawFault>
-    ensures { IfOk result (λ lines. lines ≡ feeds + more) }
-{
-    // Memory holds fewer lines than a `usize` counts.
-    feeds.checked_add(more).ok_or(RawFault::TooLarge)
-}
-
 /// Adds a definition. Its destination and title are resolved, and its label is its source (4.7).
 fn put_definition(
     alloc: Global,
@@ -35,7 +27,9 @@ fn put_definition(
     lines: usize,
     stack: &mut Stack,
     owners: &mut Owners,
+    leaves: &mut usize,
 ) -> Result<(), RawFault>
+    requires counted { leaves.old ≡ owners.old.leaves }
     ensures level { OnOk result (stack.new.level
         ≡ block_closes stack.old.level
         (leaf_block (definition found.entry.label.now found.entry.dest.now found.entry.title.now))) }
@@ -44,10 +38,11 @@ fn put_definition(
     ensures owners { OnOk result (owners.new
         ≡ own_leaf owners.old
         (definition found.entry.label.now found.entry.dest.now found.entry.title.now) lines) }
+    ensures counted { leaves.new ≡ owners.new.leaves }
 {
     let dest = unescape_or_lend(alloc, found.dest)?;
     let title = unescape_or_lend(alloc, found.title)?;
-    owners.definition(found.label, &dest, &title, lines)?;
+    owners.definition(leaves, found.label, &dest, &title, lines)?;
     stack.put(&LeafBlock::Definition {
         label: found.label,
         dest: &dest,
@@ -78,23 +73,28 @@ fn put_definitions<'a>(
     feeds: usize,
     stack: &mut Stack,
     owners: &mut Owners,
+    leaves: &mut usize,
 ) -> Result<(&'a str, usize), RawFault>
-    requires { feeds ≡ line_feeds text.now }
+    requires feeds { feeds ≡ line_feeds text.now }
+    requires few { feeds < 2 ^ 63 }
+    requires counted { leaves.old ≡ owners.old.leaves }
     ensures left { IfOk result (λ left. left.0.now ≡ (definitions_of text.now).left) }
     ensures feeds { IfOk result (λ left. left.1 ≡ line_feeds left.0.now) }
+    ensures few { IfOk result (λ left. left.1 < 2 ^ 63) }
     ensures level { OnOk result (stack.new.level
         ≡ close_leaves stack.old.level (definition_leaves text.now (definitions_of text.now).taken)) }
     ensures frames { stack.new.frames ≡ stack.old.frames }
     ensures bare { stack.new.bare ≡ stack.old.bare }
     ensures owners { OnOk result (owners.new
         ≡ own_leaves owners.old (definition_leaves text.now (definitions_of text.now).taken)) }
+    ensures counted { leaves.new ≡ owners.new.leaves }
 {
     let mut rest = text;
     let mut left = feeds;
     while let Some((found, end)) = definition(rest, 0) {
         let taken = line_feeds(&rest[..end]);
         let lines = lines_taken(rest, end, taken);
-        put_definition(alloc, found, lines, stack, owners)?;
+        put_definition(alloc, found, lines, stack, owners, leaves)?;
         rest = &rest[end..];
         left -= taken;
     }
@@ -108,25 +108,29 @@ fn put_content(
     ending: Ending,
     stack: &mut Stack,
     owners: &mut Owners,
+    leaves: &mut usize,
 ) -> Result<(), RawFault>
-    requires { feeds ≡ line_feeds source.now }
+    requires feeds { feeds ≡ line_feeds source.now }
+    requires few { feeds < 2 ^ 63 }
+    requires counted { leaves.old ≡ owners.old.leaves }
     ensures level { OnOk result (stack.new.level
         ≡ close_leaves stack.old.level (content_leaf (underline_level ending) source.now)) }
     ensures frames { stack.new.frames ≡ stack.old.frames }
     ensures bare { stack.new.bare ≡ stack.old.bare }
     ensures owners { OnOk result (owners.new
         ≡ own_leaves owners.old (content_leaf (underline_level ending) source.now)) }
+    ensures counted { leaves.new ≡ owners.new.leaves }
 {
     if source.is_empty() {
         return Ok(());
     }
     match ending {
         Ending::Underline(level) => {
-            owners.leaf(count_lines(feeds, 2)?)?;
+            owners.leaf(leaves, feeds + 2)?;
             stack.put(&LeafBlock::Heading { level, source })
         }
         Ending::Plain | Ending::ClosingFence => {
-            owners.leaf(count_lines(feeds, 1)?)?;
+            owners.leaf(leaves, feeds + 1)?;
             stack.put(&LeafBlock::Paragraph { source })
         }
     }
@@ -148,20 +152,23 @@ pub(crate) fn put_run(
     ending: Ending,
     stack: &mut Stack,
     owners: &mut Owners,
+    leaves: &mut usize,
 ) -> Result<(), RawFault>
+    requires counted { leaves.old ≡ owners.old.leaves }
     ensures level { OnOk result (stack.new.level
         ≡ close_leaves stack.old.level (run_leaves (underline_level ending) source.now)) }
     ensures frames { stack.new.frames ≡ stack.old.frames }
     ensures bare { stack.new.bare ≡ stack.old.bare }
     ensures owners { OnOk result (owners.new
         ≡ own_leaves owners.old (run_leaves (underline_level ending) source.now)) }
+    ensures counted { leaves.new ≡ owners.new.leaves }
 {
     let text = trim_end(source.as_str());
     if !may_define(text) {
-        return put_content(text, source.feeds(), ending, stack, owners);
+        return put_content(text, source.feeds(), ending, stack, owners, leaves);
     }
-    let (left, feeds) = put_definitions(alloc, text, source.feeds(), stack, owners)?;
-    put_content(left, feeds, ending, stack, owners)
+    let (left, feeds) = put_definitions(alloc, text, source.feeds(), stack, owners, leaves)?;
+    put_content(left, feeds, ending, stack, owners, leaves)
 }
 
 /// Adds a code block, whose info is resolved.
@@ -171,26 +178,29 @@ fn put_code(
     lines: usize,
     stack: &mut Stack,
     owners: &mut Owners,
+    leaves: &mut usize,
 ) -> Result<(), RawFault>
+    requires counted { leaves.old ≡ owners.old.leaves }
     ensures level { OnOk result (stack.new.level
         ≡ block_closes stack.old.level (leaf_block (code info.now text.now))) }
     ensures frames { stack.new.frames ≡ stack.old.frames }
     ensures bare { stack.new.bare ≡ stack.old.bare }
     ensures owners { OnOk result (owners.new ≡ own_plain_leaf owners.old lines) }
+    ensures counted { leaves.new ≡ owners.new.leaves }
 {
-    owners.leaf(lines)?;
+    owners.leaf(leaves, lines)?;
     stack.put(&LeafBlock::Code { info, text })
 }
 
 /// The number of lines of a fenced code block with this text and this ending.
-fn fence_lines(ending: Ending, text: &LeafText) -> Result<usize, RawFault>
-    ensures { IfOk result (λ lines. lines ≡ fence_lines ending text.now) }
+fn fence_lines(ending: Ending, text: &LeafText) -> usize
+    ensures { result ≡ fence_lines ending text.now }
 {
     let fences = match ending {
         Ending::ClosingFence => 2,
         Ending::Plain | Ending::Underline(_) => 1,
     };
-    count_lines(text.feeds(), fences)
+    text.feeds() + fences
 }
 
 /// Adds fenced code, each of whose lines has a line feed (4.5 Fenced code blocks).
@@ -200,15 +210,18 @@ pub(crate) fn put_fenced(
     ending: Ending,
     stack: &mut Stack,
     owners: &mut Owners,
+    leaves: &mut usize,
 ) -> Result<(), RawFault>
+    requires counted { leaves.old ≡ owners.old.leaves }
     ensures level { OnOk result (stack.new.level
         ≡ block_closes stack.old.level (leaf_block (code info.now text.now))) }
     ensures frames { stack.new.frames ≡ stack.old.frames }
     ensures bare { stack.new.bare ≡ stack.old.bare }
     ensures owners { OnOk result (owners.new ≡ own_plain_leaf owners.old (fence_lines ending text.now)) }
+    ensures counted { leaves.new ≡ owners.new.leaves }
 {
-    let lines = fence_lines(ending, text)?;
-    put_code(info, text.as_str(), lines, stack, owners)
+    let lines = fence_lines(ending, text);
+    put_code(info, text.as_str(), lines, stack, owners, leaves)
 }
 
 /// Adds indented code, whose lines are separated by line feeds (4.4 Indented code blocks).
@@ -216,16 +229,19 @@ pub(crate) fn put_indented(
     text: &mut LeafText,
     stack: &mut Stack,
     owners: &mut Owners,
+    leaves: &mut usize,
 ) -> Result<(), RawFault>
+    requires counted { leaves.old ≡ owners.old.leaves }
     ensures level { OnOk result (stack.new.level
         ≡ block_closes stack.old.level (leaf_block (code [] (ended text.old)))) }
     ensures frames { stack.new.frames ≡ stack.old.frames }
     ensures bare { stack.new.bare ≡ stack.old.bare }
     ensures owners { OnOk result (owners.new ≡ own_plain_leaf owners.old (suc (line_feeds text.old))) }
+    ensures counted { leaves.new ≡ owners.new.leaves }
 {
-    let lines = count_lines(text.feeds(), 1)?;
+    let lines = text.feeds() + 1;
     text.end_line()?;
-    put_code("", text.as_str(), lines, stack, owners)
+    put_code("", text.as_str(), lines, stack, owners, leaves)
 }
 
 /// Adds HTML, whose lines are separated by line feeds (4.6 HTML blocks).
@@ -233,16 +249,19 @@ pub(crate) fn put_html(
     text: &mut LeafText,
     stack: &mut Stack,
     owners: &mut Owners,
+    leaves: &mut usize,
 ) -> Result<(), RawFault>
+    requires counted { leaves.old ≡ owners.old.leaves }
     ensures level { OnOk result (stack.new.level
         ≡ block_closes stack.old.level (leaf_block (html (ended text.old)))) }
     ensures frames { stack.new.frames ≡ stack.old.frames }
     ensures bare { stack.new.bare ≡ stack.old.bare }
     ensures owners { OnOk result (owners.new ≡ own_plain_leaf owners.old (suc (line_feeds text.old))) }
+    ensures counted { leaves.new ≡ owners.new.leaves }
 {
-    let lines = count_lines(text.feeds(), 1)?;
+    let lines = text.feeds() + 1;
     text.end_line()?;
-    owners.leaf(lines)?;
+    owners.leaf(leaves, lines)?;
     stack.put(&LeafBlock::Html {
         text: text.as_str(),
     })

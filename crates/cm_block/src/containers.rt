@@ -5,7 +5,8 @@ ghost use Rattle.cm_block.specs.steps.LineTests.{Tested};
 ghost use Rattle.cm_block.specs.steps.FrameSteps.{closed_to};
 ghost use Rattle.cm_block.specs.steps.FrameStarts.{Inside};
 
-use crate::counted_line::{Begins, CountedLine, LeafStart};
+use crate::counted_line::{CountedLine, LeafStart};
+use crate::line_tests::Begins;
 use crate::stack::Stack;
 use cm_text::Rules;
 use cm_tree::RawFault;

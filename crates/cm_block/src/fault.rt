@@ -2,7 +2,7 @@
 ghost use Rattle.std.specs.Prelude.{◌≡◌};
 
 use cm_text::NoMemory;
-use cm_tree::RawFault;
+use cm_tree::{FarPlace, RawFault};
 use std::alloc::AllocError;
 use thiserror::Error;
 
@@ -16,9 +16,9 @@ pub enum BlockFault {
     #[error("out of memory")]
     NoMemory,
     /// The texts of one chunk of the document would have 2^32 bytes or more, or it would have as many blocks
-    /// or items. No document of at most 2^30 bytes has: a byte becomes at most three bytes of a text.
+    /// or items. None of a document of at most 2^30 bytes has: a byte becomes at most three bytes of a text.
     #[error("document too large")]
-    TooLarge,
+    TooLarge(FarPlace),
 }
 
 impl From<AllocError> for BlockFault {
@@ -52,7 +52,7 @@ impl From<RawFault> for BlockFault {
     fn from(fault: RawFault) -> BlockFault {
         match fault {
             RawFault::NoMemory => BlockFault::NoMemory,
-            RawFault::TooLarge => BlockFault::TooLarge,
+            RawFault::TooLarge(place) => BlockFault::TooLarge(place),
         }
     }
 }

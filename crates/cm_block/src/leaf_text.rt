@@ -2,7 +2,7 @@
 //! again.
 //!
 //! The count can't overflow, because a text has no more line feeds than bytes.
-ghost use Rattle.std.specs.Prelude.{◌≡◌, ◌++◌, [], ◌∷◌, true, OnOk};
+ghost use Rattle.std.specs.Prelude.{◌≡◌, ◌<◌, ◌^◌, ◌++◌, [], ◌∷◌, true, OnOk};
 ghost use Rattle.cm_block.specs.Prelude.{is_line, plain_lines_of, line_feeds};
 ghost use Rattle.cm_block.specs.steps.TextRuns.{add_lines, with_line};
 
@@ -48,8 +48,11 @@ impl LeafText {
 
     /// How many line feeds it has.
     pub(crate) fn feeds(&self) -> usize
-        ensures { result ≡ line_feeds self.now }
+        ensures count { result ≡ line_feeds self.now }
+        ensures few { result < 2 ^ 63 }
     {
+        // It has no more line feeds than bytes.
+        let _bytes = self.text.as_bytes();
         self.feeds
     }
 

@@ -31,6 +31,7 @@ mod leaf_block;
 mod leaf_kind;
 mod leaf_text;
 mod level;
+mod line_tests;
 mod open_leaf;
 mod outline;
 mod owner_runs;

@@ -73,7 +73,7 @@ fn leaves_html(kind: HtmlKind, line: &mut CountedLine<'_>) -> bool
 impl OpenLeaf {
     ghost use Rattle.std.specs.Prelude.{ℕ, ◌+◌, ◌≤◌, List, true, IfOk, OnOk};
     ghost use Rattle.cm_block.specs.Prelude.{plain_lines_of};
-    ghost use Rattle.cm_block.specs.OpenLeaf.{no_leaf, open_text, blank_lines_behind};
+    ghost use Rattle.cm_block.specs.OpenLeaf.{no_leaf, open_text, blank_lines_after};
     ghost use Rattle.cm_block.specs.OpenLeaf.{is_open_text, line_of_leaf};
     ghost use Rattle.cm_block.specs.steps.TextRuns.{add_lines};
     ghost use Rattle.cm_block.specs.LeafViews.{leaf_of};
@@ -108,6 +108,8 @@ impl OpenLeaf {
         ensures text { OnOk result ((source : List ℕ) → leaf_of self.old ≡ open_text source →
             leaf_of self.new ≡ open_text (add_lines source (plain_lines_of lines.old.lines.text.now))) }
         ensures tests { OnOk result (lines.new.tests ≡ lines.old.tests + lines.old.lines.count) }
+        ensures least { lines.old.tests ≤ lines.new.tests }
+        ensures most { lines.new.tests ≤ lines.old.tests + lines.old.lines.count }
     {
         if let LeafKind::Run = self.kind {
             lines.add_text(&mut self.text)?;
@@ -118,7 +120,7 @@ impl OpenLeaf {
     /// The number of blank lines after the leaf, if no further line of it follows.
     #[inline(always)]
     pub(crate) fn blank_lines(&self) -> usize
-        ensures { result ≡ blank_lines_behind (leaf_of self.now) }
+        ensures { result ≡ blank_lines_after (leaf_of self.now) }
     {
         match self.kind {
             LeafKind::Code => self.blank_lines.feeds(),
@@ -185,20 +187,25 @@ impl OpenLeaf {
         ending: Ending,
         stack: &mut Stack,
         owners: &mut Owners,
+        leaves: &mut usize,
     ) -> Result<(), RawFault>
+        requires counted { leaves.old ≡ owners.old.leaves }
         ensures level { OnOk result (stack.new.level
             ≡ close_leaves stack.old.level (leaves_with ending self.old)) }
         ensures frames { stack.new.frames ≡ stack.old.frames }
         ensures bare { stack.new.bare ≡ stack.old.bare }
         ensures owners { OnOk result (owners.new
             ≡ own_leaves owners.old (leaves_with ending self.old)) }
+        ensures counted { leaves.new ≡ owners.new.leaves }
     {
         match self.kind {
             LeafKind::Nothing => Ok(()),
-            LeafKind::Run => put_run(alloc, &self.text, ending, stack, owners),
-            LeafKind::Code => put_indented(&mut self.text, stack, owners),
-            LeafKind::Fence { .. } => put_fenced(&self.info, &self.text, ending, stack, owners),
-            LeafKind::Html { .. } => put_html(&mut self.text, stack, owners),
+            LeafKind::Run => put_run(alloc, &self.text, ending, stack, owners, leaves),
+            LeafKind::Code => put_indented(&mut self.text, stack, owners, leaves),
+            LeafKind::Fence { .. } => put_fenced(
+                &self.info, &self.text, ending, stack, owners, leaves,
+            ),
+            LeafKind::Html { .. } => put_html(&mut self.text, stack, owners, leaves),
         }
     }
 
@@ -211,7 +218,9 @@ impl OpenLeaf {
         ending: Ending,
         stack: &mut Stack,
         owners: &mut Owners,
+        leaves: &mut usize,
     ) -> Result<(), RawFault>
+        requires counted { leaves.old ≡ owners.old.leaves }
         ensures level { OnOk result (stack.new.level
             ≡ close_leaves stack.old.level (leaves_with ending self.old)) }
         ensures frames { stack.new.frames ≡ stack.old.frames }
@@ -219,8 +228,9 @@ impl OpenLeaf {
         ensures owners { OnOk result (owners.new
             ≡ own_leaves owners.old (leaves_with ending self.old)) }
         ensures leaf { OnOk result (leaf_of self.new ≡ no_leaf) }
+        ensures counted { leaves.new ≡ owners.new.leaves }
     {
-        self.put(alloc, ending, stack, owners)?;
+        self.put(alloc, ending, stack, owners, leaves)?;
         self.text.clear();
         self.kind = LeafKind::Nothing;
         Ok(())

@@ -8,7 +8,7 @@
 //!
 //! Runs are kept even if no caller asks for owners, so that each contract has one form. Without them an
 //! unproved program took 0.5 to 1.5 percent fewer instructions.
-ghost use Rattle.std.specs.Prelude.{◌≡◌, ◌≤◌, ◌<◌, ◌^◌, ◌++◌, ℕ, [], suc, length, replicate, IfOk, OnOk};
+ghost use Rattle.std.specs.Prelude.{◌≡◌, ◌≤◌, ◌<◌, ◌^◌, ◌++◌, ℕ, [], suc, length, replicate, IfOk, OnOk, OnErr};
 ghost use Rattle.cm_block.specs.OwnerRuns.{leaves_with, owner_of};
 ghost use Rattle.cm_block.specs.Stack.{blank_owner};
 ghost use Rattle.cm_tree.specs.declared.tree.Owner.TheVariants as owner;
@@ -46,15 +46,14 @@ pub(crate) struct OwnerRun {
     pub(crate) lines: u16,
 }
 
-/// The owner of each line so far, and the number of leaves. Consecutive lines with the same owner, and the
-/// blank lines after them, take the memory of one. Each leaf starts a run, so there are no more leaves than
-/// runs.
+/// The owner of each line so far, which says how many leaves there are. Consecutive lines with the same owner,
+/// and the blank lines after them, take the memory of one. Each leaf starts a run, so there are no more leaves
+/// than runs.
 #[derive(Debug, Drop)]
 pub(crate) struct OwnerRuns {
     closed: Vec<OwnerRun>,
     last: OwnerRun,
     count: u128,
-    leaves: usize,
 }
 
 impl Model for OwnerRuns {
@@ -63,12 +62,14 @@ impl Model for OwnerRuns {
 
     ghost Value = { OwnedLines };
 
-    ghost view = { λ o. record { owners = owners_in o.closed.items o.last; leaves = o.leaves } };
+    ghost view = { λ o. record {
+      owners = owners_in o.closed.items o.last;
+      leaves = leaves_with (leaves_in 0 o.closed.items) o.last.owner;
+    } };
 
     ghost invariant = { λ o. (o.count ≡ length (owners_in o.closed.items o.last))
         × (o.count ≤ length o.closed.items * 2 ^ 17 + (o.last.lines + o.last.blanks))
-        × (o.leaves ≡ leaves_with (leaves_in 0 o.closed.items) o.last.owner)
-        × (o.leaves ≤ length o.closed.items)
+        × (leaves_with (leaves_in 0 o.closed.items) o.last.owner ≤ length o.closed.items)
         × (o.last.lines < 2 ^ 16)
         × (o.last.blanks < 2 ^ 8) };
 }
@@ -139,7 +140,6 @@ impl OwnerRuns {
                 lines: 0,
             },
             count: 0,
-            leaves: 0,
         }
     }
 
@@ -156,15 +156,15 @@ impl OwnerRuns {
     /// Starts a run of `lines` lines, up to `MOST`.
     fn begin(&mut self, owner: RunOwner, lines: usize) -> Result<(), AllocError>
         requires { lines < 2 ^ 16 }
-        ensures { OnOk result (self.new ≡ record {
+        ensures pushed { OnOk result (self.new ≡ record {
           owners = self.old.owners ++ replicate lines (owner_of (leaves_with self.old.leaves owner) owner);
           leaves = leaves_with self.old.leaves owner;
         }) }
+        ensures refused { OnErr result (self.new ≡ self.old) }
     {
         self.closed.push(self.last)?;
-        // The number of runs bounds those of the lines and of the leaves.
+        // The number of runs bounds that of the lines.
         let _runs = self.closed.len();
-        self.leaves = leaves_with(self.leaves, owner);
         self.last.owner = owner;
         self.last.blanks = 0;
         self.last.lines = lines as u16;
@@ -175,10 +175,11 @@ impl OwnerRuns {
     /// Adds runs with `times` lines in all, which have no leaf or the last one.
     fn push_times(&mut self, owner: RunOwner, times: usize) -> Result<(), AllocError>
         requires { leaves_with self.old.leaves owner ≡ self.old.leaves }
-        ensures { OnOk result (self.new ≡ record {
+        ensures pushed { OnOk result (self.new ≡ record {
           owners = self.old.owners ++ replicate times (owner_of self.old.leaves owner);
           leaves = self.old.leaves;
         }) }
+        ensures leaves { self.new.leaves ≡ self.old.leaves }
     {
         let mut left = times;
         while left > 0 {
@@ -192,10 +193,11 @@ impl OwnerRuns {
     /// Adds `lines` blank lines. `marked` says whether markers were taken from them.
     #[inline(always)]
     pub(crate) fn push_blank(&mut self, marked: bool, lines: usize) -> Result<(), AllocError>
-        ensures { OnOk result (self.new ≡ record {
+        ensures pushed { OnOk result (self.new ≡ record {
           owners = self.old.owners ++ replicate lines (blank_owner marked);
           leaves = self.old.leaves;
         }) }
+        ensures leaves { self.new.leaves ≡ self.old.leaves }
     {
         let owner = blank_run(marked);
         // The number of runs bounds that of the lines.
@@ -216,20 +218,26 @@ impl OwnerRuns {
         self.push_times(owner, lines)
     }
 
-    /// Adds the lines of one more leaf.
-    pub(crate) fn push_leaf(&mut self, lines: usize) -> Result<(), AllocError>
-        ensures { OnOk result (self.new ≡ record {
+    /// Adds the lines of one more leaf, and counts it.
+    pub(crate) fn push_leaf(&mut self, leaves: &mut usize, lines: usize) -> Result<(), AllocError>
+        requires { leaves.old ≡ self.old.leaves }
+        ensures pushed { OnOk result (self.new ≡ record {
           owners = self.old.owners ++ replicate lines (owner.Leaf (suc self.old.leaves));
           leaves = suc self.old.leaves;
         }) }
+        ensures counted { leaves.new ≡ self.new.leaves }
     {
         let first = lines.min(MOST);
         self.begin(RunOwner::NextLeaf, first)?;
+        // The number of runs bounds that of the leaves.
+        let _runs = self.closed.len();
+        *leaves += 1;
         self.push_times(RunOwner::SameLeaf, lines - first)
     }
 
-    /// The owners one by one.
-    fn to_items(&self, alloc: Global) -> Result<Items<Owner>, NoMemory>
+    /// The owners one by one, where this number of leaves own lines.
+    fn to_items(&self, alloc: Global, all_leaves: usize) -> Result<Items<Owner>, NoMemory>
+        requires { all_leaves ≡ self.now.leaves }
         ensures { IfOk result (λ owners. owners ≡ self.now.owners) }
     {
         // A count that doesn't fit in a `usize` is requested as the greatest one, and refused.
@@ -240,7 +248,7 @@ impl OwnerRuns {
             leaves = leaves_with(leaves, run.owner);
             push_run(&mut owners, leaves, *run)?;
         }
-        push_run(&mut owners, self.leaves, self.last)?;
+        push_run(&mut owners, all_leaves, self.last)?;
         Ok(Items::from(owners))
     }
 }
@@ -249,23 +257,27 @@ impl OwnerRuns {
 #[derive(Debug, Drop)]
 pub struct LineOwners {
     runs: OwnerRuns,
+    leaves: usize,
 }
 
 impl Model for LineOwners {
-    ghost use Rattle.std.specs.Prelude.{List};
+    ghost use Rattle.std.specs.Prelude.{◌≡◌, List};
     ghost use Rattle.cm_tree.specs.declared.tree.Owner.{Owner};
 
     ghost Value = { List Owner };
 
     ghost view = { λ o. o.runs.owners };
+
+    ghost invariant = { λ o. o.leaves ≡ o.runs.leaves };
 }
 
 impl LineOwners {
-    /// The owners of these lines.
-    pub(crate) fn new(runs: OwnerRuns) -> LineOwners
+    /// The owners of these lines, which have this number of leaves.
+    pub(crate) fn new(runs: OwnerRuns, leaves: usize) -> LineOwners
+        requires { leaves ≡ runs.leaves }
         ensures { result ≡ runs.owners }
     {
-        LineOwners { runs }
+        LineOwners { runs, leaves }
     }
 
     /// The owners one by one.
@@ -276,6 +288,6 @@ impl LineOwners {
     pub fn to_items(&self, alloc: Global) -> Result<Items<Owner>, NoMemory>
         ensures { IfOk result (λ owners. owners ≡ self.now) }
     {
-        self.runs.to_items(alloc)
+        self.runs.to_items(alloc, self.leaves)
     }
 }

@@ -1,4 +1,4 @@
-//! What is kept of the lines so far: the owner of each, the number of leaves, and the definitions.
+//! What is kept of the lines so far: the owner of each, and the definitions. The parser counts the leaves.
 //!
 //! A definition goes into the table when it goes into the tree, so finishing walks no tree.
 ghost use Rattle.std.specs.Prelude.{◌≡◌, ◌≤◌, ◌^◌, ◌++◌, [], ◌∷◌, suc, length, OnOk};
@@ -11,7 +11,7 @@ use cm_tree::Definitions;
 use std::alloc::{AllocError, Global};
 use std::marker::Model;
 
-/// The owners of the lines so far, the number of leaves, and the definitions.
+/// The owners of the lines so far, and the definitions. The owners say how many leaves there are.
 #[derive(Debug, Drop)]
 pub(crate) struct Owners {
     runs: OwnerRuns,
@@ -55,45 +55,54 @@ impl Owners {
         self.runs.len() + 1
     }
 
-    /// Adds the lines of one more leaf, which is no definition.
-    pub(crate) fn leaf(&mut self, lines: usize) -> Result<(), AllocError>
-        ensures { OnOk result (self.new ≡ own_plain_leaf self.old lines) }
+    /// Adds the lines of one more leaf, which is no definition, and counts it.
+    pub(crate) fn leaf(&mut self, leaves: &mut usize, lines: usize) -> Result<(), AllocError>
+        requires { leaves.old ≡ self.old.leaves }
+        ensures owned { OnOk result (self.new ≡ own_plain_leaf self.old lines) }
+        ensures counted { leaves.new ≡ self.new.leaves }
     {
-        self.runs.push_leaf(lines)
+        self.runs.push_leaf(leaves, lines)
     }
 
-    /// Adds the lines of a definition. The first of matching labels counts.
+    /// Adds the lines of a definition, and counts it. The first of matching labels counts.
     pub(crate) fn definition(
         &mut self,
+        leaves: &mut usize,
         label: &str,
         dest: &str,
         title: &str,
         lines: usize,
     ) -> Result<(), NoMemory>
-        ensures { OnOk result (self.new ≡ own_definition self.old label.now (dest.now, title.now) lines) }
+        requires { leaves.old ≡ self.old.leaves }
+        ensures owned { OnOk result (self.new
+            ≡ own_definition self.old label.now (dest.now, title.now) lines) }
+        ensures counted { leaves.new ≡ self.new.leaves }
     {
-        self.leaf(lines)?;
+        self.leaf(leaves, lines)?;
         self.definitions.add(label, dest, title)
     }
 
-    /// The owner of each line, and the table of the definitions.
-    pub(crate) fn into_parts(self) -> (LineOwners, Definitions)
+    /// The owner of each line, of which this number of leaves own some, and the table of the definitions.
+    pub(crate) fn into_parts(self, leaves: usize) -> (LineOwners, Definitions)
+        requires { leaves ≡ self.leaves }
         ensures owners { result.0 ≡ self.owners }
         ensures definitions { result.1 ≡ self.table }
     {
-        (LineOwners::new(self.runs), self.definitions)
+        (LineOwners::new(self.runs, leaves), self.definitions)
     }
 
     /// Adds a blank line. `marked` says whether markers were taken from it.
     pub(crate) fn blank_line(&mut self, marked: bool) -> Result<(), AllocError>
-        ensures { OnOk result (self.new ≡ own_lines self.old (blank_owner marked ∷ [])) }
+        ensures owned { OnOk result (self.new ≡ own_lines self.old (blank_owner marked ∷ [])) }
+        ensures leaves { self.new.leaves ≡ self.old.leaves }
     {
         self.runs.push_blank(marked, 1)
     }
 
     /// Adds `lines` blank lines, inside a quote or not.
     pub(crate) fn blank_lines(&mut self, in_a_quote: bool, lines: usize) -> Result<(), AllocError>
-        ensures { OnOk result (self.new ≡ own_blanks in_a_quote lines self.old) }
+        ensures owned { OnOk result (self.new ≡ own_blanks in_a_quote lines self.old) }
+        ensures leaves { self.new.leaves ≡ self.old.leaves }
     {
         self.runs.push_blank(in_a_quote, lines)
     }

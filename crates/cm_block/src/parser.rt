@@ -6,29 +6,7 @@
 //!
 //! Contracts see a `BlockParser` by its fields (`stack_of`). Its stack holds data inside itself, and the
 //! checker could only distinguish values of such a type with hand-written code.
-ghost use Rattle.std.specs.Prelude.{◌≡◌, ◌≢◌, ◌+◌, ◌-◌, ◌<◌, ◌≤◌, ◌∷◌, ◌++◌, []};
-ghost use Rattle.std.specs.Prelude.{ℕ, List, None, true, false, length, suc, Some, Err};
-ghost use Rattle.std.specs.Prelude.{IfOk, IfErr, OnOk, OnErr};
-ghost use Rattle.cm_block.specs.Prelude.{answer_after, LineView, plain_lines_of, seen_line, seen_view};
-ghost use Rattle.cm_block.specs.declared.fault.BlockFault as faults;
-ghost use Rattle.cm_block.specs.declared.fault.BlockFault.TheVariants as block_faults;
-ghost use Rattle.cm_tree.specs.declared.raw_blocks.RawFault.TheVariants as raw_faults;
-ghost use Rattle.cm_block.specs.OpenLeaf.{no_leaf, open_text, is_open_text};
-ghost use Rattle.cm_block.specs.Machine.{in_leaf};
-ghost use Rattle.cm_block.specs.Level.{closed_blocks};
-ghost use Rattle.cm_block.specs.Stack.{close_open, own_open, push_line};
-ghost use Rattle.cm_block.specs.steps.FrameSteps.{close_frames, closed_to, quoted_by};
-ghost use Rattle.cm_block.specs.LeafViews.{leaf_of};
-ghost use Rattle.cm_block.specs.steps.StartViews.{seen};
-ghost use Rattle.cm_block.specs.steps.FirstLines.{begins_container};
-ghost use Rattle.cm_block.specs.steps.FrameStarts.{begun_by, with_blank, LeafBegins, DeepIn};
-ghost use Rattle.cm_block.specs.Faults.{IsTooMuch};
-ghost use Rattle.cm_block.specs.Parser.{stack_of, has_nothing_open, takes_text};
-ghost use Rattle.cm_block.specs.Parser.{HasTaken, TellsDepth, OutlineOf, TestsOf};
-ghost use Rattle.cm_block.specs.Tests.{count_of};
-ghost use Rattle.cm_block.specs.steps.LineTests.{Tested};
-ghost use Rattle.cm_block.specs.steps.ParserSteps.{Deep, ends_at_blank, with_run, TakenToLeaf};
-ghost use Rattle.cm_block.specs.steps.TextRuns.{add_lines};
+ghost use Rattle.std.specs.Prelude.{◌≡◌};
 
 use crate::containers::Innermost;
 use crate::counted_line::{CountedLine, CountedLines, LeafStart};
@@ -67,11 +45,37 @@ pub struct BlockParser {
     stack: Stack,
     leaf: OpenLeaf,
     owners: Owners,
+    leaves: usize,
     tests: u128,
     fault: Option<BlockFault>,
+    ghost counted: { leaves ≡ owners.leaves },
 }
 
 impl BlockParser {
+    ghost use Rattle.std.specs.Prelude.{◌≡◌, ◌≢◌, ◌+◌, ◌-◌, ◌*◌, ◌<◌, ◌≤◌, ◌∷◌, ◌++◌, []};
+    ghost use Rattle.std.specs.Prelude.{ℕ, List, None, true, false, length, suc, Some, Err};
+    ghost use Rattle.std.specs.Prelude.{IfOk, IfErr, OnOk, OnErr};
+    ghost use Rattle.cm_block.specs.Prelude.{answer_after, LineView, plain_lines_of, seen_line, seen_view};
+    ghost use Rattle.cm_block.specs.declared.fault.BlockFault as faults;
+    ghost use Rattle.cm_block.specs.declared.fault.BlockFault.TheVariants as block_faults;
+    ghost use Rattle.cm_tree.specs.declared.raw_blocks.RawFault.TheVariants as raw_faults;
+    ghost use Rattle.cm_block.specs.OpenLeaf.{no_leaf, open_text, is_open_text};
+    ghost use Rattle.cm_block.specs.Machine.{in_leaf};
+    ghost use Rattle.cm_block.specs.Level.{closed_blocks};
+    ghost use Rattle.cm_block.specs.Stack.{close_open, own_open, push_line};
+    ghost use Rattle.cm_block.specs.steps.FrameSteps.{close_frames, closed_to, quoted_by};
+    ghost use Rattle.cm_block.specs.LeafViews.{leaf_of};
+    ghost use Rattle.cm_block.specs.steps.StartViews.{seen};
+    ghost use Rattle.cm_block.specs.steps.FirstLines.{begins_container};
+    ghost use Rattle.cm_block.specs.steps.FrameStarts.{begun_by, with_blank, LeafBegins, DeepIn};
+    ghost use Rattle.cm_block.specs.Faults.{IsTooMuch};
+    ghost use Rattle.cm_block.specs.Parser.{stack_of, has_nothing_open, takes_text};
+    ghost use Rattle.cm_block.specs.Parser.{HasTaken, TellsDepth, OutlineOf, TestsOf};
+    ghost use Rattle.cm_block.specs.Tests.{count_of, AllTested};
+    ghost use Rattle.cm_block.specs.steps.LineTests.{Tested};
+    ghost use Rattle.cm_block.specs.steps.ParserSteps.{Deep, ends_at_blank, with_run, TakenToLeaf};
+    ghost use Rattle.cm_block.specs.steps.TextRuns.{add_lines};
+
     /// The limits that it was made with.
     pub fn limits(&self) -> Limits
         ensures { result ≡ self.now.limits }
@@ -91,6 +95,7 @@ impl BlockParser {
             stack: Stack::new(alloc),
             leaf: OpenLeaf::new(alloc),
             owners: Owners::new(alloc),
+            leaves: 0,
             tests: 0,
             fault: None,
         }
@@ -115,7 +120,13 @@ impl BlockParser {
             return Ok(());
         }
         let blank_lines = self.leaf.blank_lines();
-        self.leaf.close(self.alloc, Ending::Plain, &mut self.stack, &mut self.owners)?;
+        self.leaf.close(
+            self.alloc,
+            Ending::Plain,
+            &mut self.stack,
+            &mut self.owners,
+            &mut self.leaves,
+        )?;
         if blank_lines > 0 {
             self.stack.push_blank();
             self.owners
@@ -160,15 +171,20 @@ impl BlockParser {
         ensures fault { self.new.fault ≡ self.old.fault }
     {
         self.stack.open_block()?;
-        if line.put_whole(start, &mut self.stack, &mut self.owners)? {
+        if line.put_whole(start, &mut self.stack, &mut self.owners, &mut self.leaves)? {
             return Ok(());
         }
         let rules = self.limits.rules();
         match line.begin_leaf(self.alloc, rules, &mut self.leaf, start)? {
             LeafLine::Stays | LeafLine::Leaves => Ok(()),
             LeafLine::Last(ending) => {
-                self.leaf
-                    .close(self.alloc, ending, &mut self.stack, &mut self.owners)
+                self.leaf.close(
+                    self.alloc,
+                    ending,
+                    &mut self.stack,
+                    &mut self.owners,
+                    &mut self.leaves,
+                )
             }
         }
     }
@@ -232,8 +248,13 @@ impl BlockParser {
         match self.leaf.take_line(self.limits.rules(), line)? {
             LeafLine::Stays => {}
             LeafLine::Last(ending) => {
-                self.leaf
-                    .close(self.alloc, ending, &mut self.stack, &mut self.owners)?;
+                self.leaf.close(
+                    self.alloc,
+                    ending,
+                    &mut self.stack,
+                    &mut self.owners,
+                    &mut self.leaves,
+                )?;
             }
             LeafLine::Leaves => return Ok(false),
         }
@@ -389,6 +410,8 @@ impl BlockParser {
         ensures counted { self.new.tests ≡ self.old.tests }
         ensures fault { self.new.fault ≡ self.old.fault }
         ensures tests { OnOk result (lines.new.tests ≡ lines.old.tests + lines.old.lines.count) }
+        ensures least { lines.old.tests ≤ lines.new.tests }
+        ensures most { lines.new.tests ≤ lines.old.tests + lines.old.lines.count }
         ensures refused { IfErr result (λ fault. leaf_of self.old.leaf ≢ no_leaf →
             fault ≡ raw_faults.NoMemory) }
     {
@@ -413,6 +436,7 @@ impl BlockParser {
             fault ≡ block_faults.NoMemory) }
         ensures answer { result ≡ answer_after self.new.fault }
         ensures limits { self.new.limits ≡ self.old.limits }
+        ensures tests { AllTested more.now.count (2 * more.now.count) self.old.tests self.new.tests }
     {
         // The range of the limit, which bounds how often a line is read.
         let _limit = self.limits.blocks();
@@ -462,10 +486,11 @@ impl BlockParser {
             stack,
             leaf: _,
             owners,
+            leaves,
             tests,
             fault: _,
         } = self;
-        let (owners, definitions) = owners.into_parts();
+        let (owners, definitions) = owners.into_parts(leaves);
         Ok(Outline {
             blocks: stack.into_tree()?,
             owners,

@@ -19,7 +19,7 @@ ghost use Rattle.cm_block.specs.Level.{closed_blocks, item_opens, push_blank};
 ghost use Rattle.cm_block.specs.steps.LeafBlocks.{block_of};
 ghost use Rattle.cm_block.specs.steps.LevelViews.{level_in, IsLevelPlaced};
 ghost use Rattle.cm_block.specs.Frames.{a_quote, an_item, is_last, Frame as open_frame};
-ghost use Rattle.cm_block.specs.steps.FrameSteps.{continuation_in, inward, matching, behind, LeavesNext};
+ghost use Rattle.cm_block.specs.steps.FrameSteps.{continuation_in, inward, matching, beyond, LeavesNext};
 ghost use Rattle.cm_block.specs.steps.FrameSteps.{quoted_by, close_container, close_frames};
 ghost use Rattle.cm_block.specs.steps.FrameSteps.{closed_to, is_continued_by};
 ghost use Rattle.cm_block.specs.steps.ContinuationViews.{IsInside, stays};
@@ -168,7 +168,7 @@ fn begin_with_item(frames: &[Frame]) -> bool {
 fn go_into_items(frames: &[Frame], line: &mut LineInItems<'_>) -> EnteredItems
     requires plain { line.old.inner.lazy ≡ false }
     requires unread { line.old.tests ≡ 0 }
-    ensures through { (rules : all.Rules) (open_text : Bool) (raw : Raw) → behind result.count
+    ensures through { (rules : all.Rules) (open_text : Bool) (raw : Raw) → beyond result.count
         (matching rules false open_text (drop result.count (frames_in raw frames.now))
         (seen_view line.new.inner))
         ≡ matching rules false open_text (frames_in raw frames.now) (seen_view line.old.inner) }
@@ -203,7 +203,7 @@ fn go_into_items(frames: &[Frame], line: &mut LineInItems<'_>) -> EnteredItems
 /// the line enters none.
 #[inline(always)]
 fn enter_items(frames: &[Frame], bare: bool, line: &mut CountedLine<'_>) -> EnteredItems
-    ensures through { (rules : all.Rules) (open_text : Bool) (raw : Raw) → behind result.count
+    ensures through { (rules : all.Rules) (open_text : Bool) (raw : Raw) → beyond result.count
         (matching rules bare open_text (drop result.count (frames_in raw frames.now))
         (seen_view line.new.rest))
         ≡ matching rules bare open_text (frames_in raw frames.now) (seen_view line.old.rest) }
@@ -300,14 +300,14 @@ impl Model for Stack {
     ghost use Rattle.cm_tree.specs.contracts.tree.ListKind as list_kind;
     ghost use Rattle.cm_block.specs.steps.FrameViews.{frames_in, AreFramesPlaced};
     ghost use Rattle.cm_block.specs.steps.LevelViews.{level_in, IsLevelPlaced};
-    ghost use Rattle.cm_block.specs.steps.FrontViews.{frames_behind, innermost};
+    ghost use Rattle.cm_block.specs.steps.FrontViews.{frames_after, innermost};
 
     ghost Value = { Row };
 
     ghost coded = { Prim.hlevel (codes, block.the_row.coded, list_kind.the_row.coded) };
 
     ghost view = { λ s. record {
-      frames = frames_behind s.chunks (frames_in s.raw s.frames.items);
+      frames = frames_after s.chunks (frames_in s.raw s.frames.items);
       bare = s.bare;
       level = innermost s.chunks (frames_in s.raw s.frames.items) (level_in s.raw s.level);
     } };
@@ -454,12 +454,12 @@ impl Stack {
         if self.depth() == depth {
             return Ok(());
         }
-        self.close_behind(depth)
+        self.close_after(depth)
     }
 
     /// Closes the containers after the first `depth`, from the inside out.
     #[inline(never)]
-    fn close_behind(&mut self, depth: usize) -> Result<(), RawFault>
+    fn close_after(&mut self, depth: usize) -> Result<(), RawFault>
         requires { depth ≤ length self.old.frames }
         ensures frames { OnOk result (self.new.frames ≡ take depth self.old.frames) }
         ensures level { OnOk result (self.new.level

@@ -26,7 +26,7 @@ pub(crate) fn line_feeds(text: &str) -> usize
 }
 
 /// The text after the definitions at its start (4.7 Link reference definitions).
-fn behind_definitions(text: &str) -> &str
+fn after_definitions(text: &str) -> &str
     ensures { result.now ≡ (definitions_of text.now).left }
 {
     let mut rest = text;
@@ -40,7 +40,7 @@ fn behind_definitions(text: &str) -> &str
 fn has_rest(source: &str) -> bool
     ensures { result ≡ not (is_empty (rest_of source.now)) }
 {
-    !behind_definitions(trim_end(source)).is_empty()
+    !after_definitions(trim_end(source)).is_empty()
 }
 
 /// The level of the heading that the line makes of a run with this source. There has to be something above

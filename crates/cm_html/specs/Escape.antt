@@ -2,15 +2,15 @@
 use Rattle.std.specs.Prelude.{ℕ, ◌==◌, Bool, ◌||◌, List, [], ◌∷◌, codes, if◌then◌else◌, flat_map}
 use Rattle.std.specs.Char.{is_ascii_alphanumeric}
 use Rattle.std.specs.List.{list_any, before_first}
+use Rattle.std.specs.Str.{byte}
 use Rattle.percent_encoding.specs.Percent.{percent_encode_byte}
 pub use Rattle.cm_text.specs.Characters.{is_space_or_tab}
-use Rattle.cm_text.specs.Bytes.{quotation_mark, ampersand, less_than, greater_than}
 
 -- a byte as it is written in HTML: `&`, `<`, `>` and `"` are references
 abbrev pub escape_byte : ℕ → List ℕ
 escape_byte b =
-    if b == ampersand then codes "&amp;"
-    else (if b == less_than then codes "&lt;" else (if b == greater_than then codes "&gt;" else (if b == quotation_mark then codes "&quot;" else b ∷ [])))
+    if b == byte "&" then codes "&amp;"
+    else (if b == byte "<" then codes "&lt;" else (if b == byte ">" then codes "&gt;" else (if b == byte "\"" then codes "&quot;" else b ∷ [])))
 
 -- a text with each `&`, `<`, `>` and `"` as a reference
 abbrev pub escape : List ℕ → List ℕ

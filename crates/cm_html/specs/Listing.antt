@@ -2,6 +2,7 @@
 use Rattle.std.specs.Prelude.{ℕ, zero, suc, ◌/◌, ◌%◌, ◌==◌, Bool, true, false, List, [], ◌∷◌, ◌++◌, map, codes, if◌then◌else◌, flat_map}
 use Rattle.std.specs.Fmt.{decimal, digit_glyph}
 use Rattle.std.specs.Char.{is_ascii_control}
+use Rattle.std.specs.Str.{byte}
 use Rattle.cm_tree.specs.declared.tree.Inline.{Inline, Inline-F}
 use Rattle.cm_tree.specs.declared.tree.Inline.TheOpen as inline
 use Rattle.cm_tree.specs.declared.tree.Inline.TheFolds.{fold-Inline}
@@ -12,13 +13,12 @@ use Rattle.cm_tree.specs.declared.tree.ListKind.{ListKind}
 use Rattle.cm_tree.specs.declared.tree.ListKind.TheVariants.{Dash, Plus, Star, Dot, Paren}
 use Rattle.cm_tree.specs.declared.tree.Owner.{Owner}
 use Rattle.cm_tree.specs.declared.tree.Owner.TheVariants.{Leaf, Marker, Blank}
-use Rattle.cm_text.specs.Bytes.{line_feed, quotation_mark, backslash}
 
 -- a byte between quotes: `\`, `"`, line feeds and other ASCII control characters are escaped
 abbrev pub quote_byte : ℕ → List ℕ
 quote_byte b =
-    if b == backslash then codes "\\\\"
-    else (if b == quotation_mark then codes "\\\"" else (if b == line_feed then codes "\\n"
+    if b == byte "\\" then codes "\\\\"
+    else (if b == byte "\"" then codes "\\\"" else (if b == byte "\n" then codes "\\n"
     else (if is_ascii_control b then codes "\\x" ++ digit_glyph false (b / 16) ∷ digit_glyph false (b % 16) ∷ [] else b ∷ [])))
 
 -- a text between quotes, in which `\`, `"`, line feeds and other ASCII control characters are escaped

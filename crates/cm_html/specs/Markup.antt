@@ -1,11 +1,10 @@
 -- What markup is: text, and tags of a fixed list, each closed in its place. The tags in some bytes are found from the left, with the
 -- names of the open elements. The rules decide which addresses and classes can be in it.
 use Rattle.std.specs.Prelude.{ℕ, ◌==◌, Bool, true, false, not, ◌&&◌, ◌||◌, Option, Some, None, List, [], ◌∷◌, ◌++◌, codes, drop, if◌then◌else◌}
-use Rattle.std.specs.Option.{is_some}
+use Rattle.std.specs.Option.{is_some, option_map}
 use Rattle.std.specs.Char.{is_ascii_digit}
 use Rattle.std.specs.List.{list_any, list_all, before_first}
-use Rattle.std.specs.Str.{bytes_eq}
-use Rattle.cm_text.specs.Bytes.{space, quotation_mark, ampersand, less_than, greater_than}
+use Rattle.std.specs.Str.{bytes_eq, byte}
 use Rattle.cm_text.specs.Rules.{Rules}
 use Rattle.cm_text.specs.Characters.{is_space_or_tab}
 use Rattle.cm_text.specs.Addresses.{is_followed}
@@ -23,7 +22,7 @@ references = codes "amp;" ∷ codes "lt;" ∷ codes "gt;" ∷ codes "quot;" ∷ 
 
 -- A byte of a text, given what follows it: no `<`, `>` or `"`, and a `&` only at the start of one of the four references.
 abbrev pub may_stand : ℕ → List ℕ → Bool
-may_stand b next = if b == ampersand then list_any (λ reference. begins reference next) references else not (b == less_than || b == greater_than || b == quotation_mark)
+may_stand b next = if b == byte "&" then list_any (λ reference. begins reference next) references else not (b == byte "<" || b == byte ">" || b == byte "\"")
 
 -- bytes that are text
 abbrev pub is_text : List ℕ → Bool
@@ -41,9 +40,6 @@ opening_tags =
 -- the tags of an element without content
 abbrev pub lone_tags : List (List ℕ)
 lone_tags = codes "hr /" ∷ codes "br /" ∷ codes "img src=\"\" alt=\"\" /" ∷ codes "img src=\"\" alt=\"\" title=\"\" /" ∷ []
-
-abbrev pub is_among : List (List ℕ) → List ℕ → Bool
-is_among tags tag = list_any (bytes_eq tag) tags
 
 -- HTML's spaces, which separate classes
 abbrev pub is_html_space : ℕ → Bool
@@ -76,32 +72,31 @@ closed name [] = Refused
 closed name (innermost ∷ names) = if bytes_eq name innermost then InText names else Refused
 
 -- after a tag
-abbrev pub behind_tag : List ℕ → List (List ℕ) → Place
-behind_tag tag names =
+abbrev pub after_tag : List ℕ → List (List ℕ) → Place
+after_tag tag names =
     if begins (codes "/") tag then closed (drop 1 tag) names
-    else (if is_among lone_tags tag then InText names
-    else (if is_among opening_tags tag then InText (before_first (λ b. b == space) tag ∷ names) else Refused))
+    else (if list_any (bytes_eq tag) lone_tags then InText names
+    else (if list_any (bytes_eq tag) opening_tags then InText (before_first (λ b. b == byte " ") tag ∷ names) else Refused))
 
 -- after one more byte, given what follows it
-abbrev pub behind : Rules → Place → ℕ → List ℕ → Place
-behind rules (InText names) b next = if b == less_than then InTag [] names else (if may_stand b next then InText names else Refused)
-behind rules (InTag tag names) b next =
-    if b == greater_than then behind_tag tag names else (if b == quotation_mark then InValue tag [] names else InTag (tag ++ b ∷ []) names)
-behind rules (InValue tag value names) b next =
-    if b == quotation_mark
+abbrev pub beyond : Rules → Place → ℕ → List ℕ → Place
+beyond rules (InText names) b next = if b == byte "<" then InTag [] names else (if may_stand b next then InText names else Refused)
+beyond rules (InTag tag names) b next =
+    if b == byte ">" then after_tag tag names else (if b == byte "\"" then InValue tag [] names else InTag (tag ++ b ∷ []) names)
+beyond rules (InValue tag value names) b next =
+    if b == byte "\""
     then (if may_be_value rules tag value then InTag (tag ++ codes "\"\"") names else Refused)
     else InValue tag (value ++ b ∷ []) names
-behind rules Refused b next = Refused
+beyond rules Refused b next = Refused
 
 -- the tag that this byte ends
 abbrev pub ended : Place → ℕ → List (List ℕ)
-ended (InTag tag names) b = if b == greater_than then tag ∷ [] else []
+ended (InTag tag names) b = if b == byte ">" then tag ∷ [] else []
 ended place b = []
 
 -- tags before those that follow, if there is nothing but markup
 abbrev pub and_tag : List ℕ → Option (List (List ℕ)) → Option (List (List ℕ))
-and_tag tag None = None
-and_tag tag (Some tags) = Some (tag ∷ tags)
+and_tag tag tags = option_map (λ more. tag ∷ more) tags
 
 abbrev pub and_tags : List (List ℕ) → Option (List (List ℕ)) → Option (List (List ℕ))
 and_tags [] following = following
@@ -114,7 +109,7 @@ at_end _ = None
 
 abbrev pub tags_from : Rules → Place → List ℕ → Option (List (List ℕ))
 tags_from rules place [] = at_end place
-tags_from rules place (b ∷ bs) = and_tags (ended place b) (tags_from rules (behind rules place b bs) bs)
+tags_from rules place (b ∷ bs) = and_tags (ended place b) (tags_from rules (beyond rules place b bs) bs)
 
 -- the tags in some bytes, in order, each without what is in its quotes, or none if the bytes aren't markup
 abbrev pub tags_in : Rules → List ℕ → Option (List (List ℕ))

@@ -51,7 +51,7 @@ pub record AddressMarkupExamples : Type 0 where
   pub https : is_markup safe (codes "<a href=\"HTTPS://a.b?c&amp;d\">a</a>") ≡ true
   pub mail : is_markup safe (codes "<a href=\"mailto:a@b\">a</a>") ≡ true
   pub script : is_markup safe (codes "<a href=\"JavaScript:alert(1)\">a</a>") ≡ false
-  pub script_behind_a_space : is_markup safe (codes "<a href=\" javascript:alert(1)\">a</a>") ≡ false
+  pub script_after_a_space : is_markup safe (codes "<a href=\" javascript:alert(1)\">a</a>") ≡ false
   pub script_around_a_line_feed : is_markup safe (codes "<a href=\"java\nscript:alert(1)\">a</a>") ≡ false
   pub image : is_markup safe (codes "<img src=\"data:a\" alt=\"\" />") ≡ false
   pub other_values : is_markup safe (codes "<img src=\"/u\" alt=\"javascript:a\" title=\"javascript:b\" />") ≡ true

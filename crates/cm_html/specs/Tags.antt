@@ -2,6 +2,7 @@
 -- matters.
 use Rattle.std.specs.Prelude.{◌≡◌, ℕ, ◌==◌, Bool, true, false, Some, List, [], ◌∷◌, ◌++◌, codes, map, cond}
 use Rattle.std.specs.Fmt.{decimal}
+use Rattle.std.specs.List.{flat_map}
 use Rattle.cm_tree.specs.declared.tree.Inline.{Inline, Inline-F}
 use Rattle.cm_tree.specs.declared.tree.Inline.TheOpen as inline
 use Rattle.cm_tree.specs.declared.tree.Inline.TheFolds.{fold-Inline}
@@ -9,7 +10,7 @@ use Rattle.cm_tree.specs.declared.tree.Block.{Block, Block-F}
 use Rattle.cm_tree.specs.declared.tree.Block.TheOpen as block
 use Rattle.cm_tree.specs.declared.tree.Block.TheFolds.{fold-Block}
 use Rattle.cm_tree.specs.declared.tree.ListKind.{ListKind}
-use Rattle.cm_tree.specs.declared.tree.ListKind.TheVariants.{Dash, Plus, Star, Dot, Paren}
+use Rattle.cm_tree.specs.declared.tree.ListKind.TheVariants.{Dot, Paren}
 use Rattle.cm_html.specs.Escape.{class_word}
 use Rattle.cm_html.specs.Html.{html_of}
 use Rattle.cm_text.specs.Rules.{Rules, profile}
@@ -23,8 +24,7 @@ abbrev pub Tags : Type 0
 Tags = List (List ℕ)
 
 abbrev pub join_tags : List Tags → Tags
-join_tags [] = []
-join_tags (tags ∷ more) = tags ++ join_tags more
+join_tags all = flat_map (λ tags. tags) all
 
 -- an element: its start tag, the tags inside, and its end tag
 abbrev pub element : List ℕ → Tags → List ℕ → Tags
@@ -63,29 +63,21 @@ abbrev pub ordered_tag : ℕ → List ℕ
 ordered_tag start = cond (start == 1) (codes "ol") (codes "ol start=\"\"")
 
 abbrev pub list_element : ListKind → Tags → Tags
-list_element Dash tags = element (codes "ul") tags (codes "/ul")
-list_element Plus tags = element (codes "ul") tags (codes "/ul")
-list_element Star tags = element (codes "ul") tags (codes "/ul")
 list_element (Dot start) tags = element (ordered_tag start) tags (codes "/ol")
 list_element (Paren start) tags = element (ordered_tag start) tags (codes "/ol")
-
--- a paragraph in a tight item has no tags of its own
-abbrev pub paragraph_tags : (tight : Bool) → Tags → Tags
-paragraph_tags true tags = tags
-paragraph_tags false tags = element (codes "p") tags (codes "/p")
+list_element _ tags = element (codes "ul") tags (codes "/ul")
 
 -- the tags of blocks, in a tight item or not
 abbrev pub join_blocks : Bool → List (Bool → Tags) → Tags
-join_blocks tight [] = []
-join_blocks tight (block ∷ blocks) = block tight ++ join_blocks tight blocks
+join_blocks tight blocks = flat_map (λ block. block tight) blocks
 
 abbrev pub join_items : Bool → List (List (Bool → Tags)) → Tags
-join_items tight [] = []
-join_items tight (item ∷ items) = element (codes "li") (join_blocks tight item) (codes "/li") ++ join_items tight items
+join_items tight items = flat_map (λ item. element (codes "li") (join_blocks tight item) (codes "/li")) items
 
--- one block, given the tags of each block inside
+-- one block, given the tags of each block inside; a paragraph in a tight item has no tags of its own
 abbrev pub block_tags : Block-F (Bool → Tags) → Bool → Tags
-block_tags (block.Paragraph content) tight = paragraph_tags tight (tags_of_inlines content)
+block_tags (block.Paragraph content) true = tags_of_inlines content
+block_tags (block.Paragraph content) false = element (codes "p") (tags_of_inlines content) (codes "/p")
 block_tags (block.Heading level content) tight = element (codes "h" ++ decimal level) (tags_of_inlines content) (codes "/h" ++ decimal level)
 block_tags (block.Code info text) tight = codes "pre" ∷ code_tag (class_word info) ∷ codes "/code" ∷ codes "/pre" ∷ []
 block_tags block.Break tight = codes "hr /" ∷ []

@@ -1,5 +1,5 @@
 pub mod AlternativeText
 pub mod Bytes
 pub mod FormedTexts
-pub mod ItemPass
+pub mod HtmlParts
 pub mod Pages

@@ -2,9 +2,9 @@
 ghost use Rattle.std.specs.Prelude.{◌≡◌, ◌++◌, true, false, codes, map, OnOk};
 ghost use Rattle.std.specs.Fmt.{decimal};
 ghost use Rattle.cm_html.specs.Html.{list_start, list_end, ordered_start, inlines_html, written, alone};
-ghost use Rattle.cm_html.specs.Html.{html_of, paragraph_html, heading_start, heading_end, heading_html};
-ghost use Rattle.cm_html.specs.Html.{class_start, code_start, code_html, quote_html, item_html, inside};
-ghost use Rattle.cm_html.specs.Html.{break_html};
+ghost use Rattle.cm_html.specs.Html.{html_of, heading_start, heading_end, heading_html};
+ghost use Rattle.cm_html.specs.Html.{code_start, code_html};
+ghost use Rattle.cm_html.specs.steps.HtmlParts.{paragraph_html, quote_html, class_start, inside, item_html};
 
 use crate::elements::Element;
 use crate::escape::class_word;
@@ -58,7 +58,7 @@ pub fn push_block(out: &mut Pages, block: &Block) -> Result<(), AllocError>
 /// As `push_block`.
 #[inline(always)]
 pub fn push_break(out: &mut Pages) -> Result<(), AllocError>
-    ensures { OnOk result (out.new ≡ out.old ++ break_html) }
+    ensures { OnOk result (out.new ≡ out.old ++ codes "<hr />\n") }
 {
     out.push_str("<hr />\n")
 }

@@ -3,9 +3,10 @@ ghost use Rattle.std.specs.Prelude.{◌≡◌, ◌++◌, codes, OnOk};
 ghost use Rattle.cm_tree.specs.LinkTargets.{led_to};
 ghost use Rattle.cm_html.specs.Escape.{escape, destination_html};
 ghost use Rattle.cm_html.specs.Elements.{element_html};
-ghost use Rattle.cm_html.specs.Html.{Rendered, rendered, inlines_html, code_span_html};
+ghost use Rattle.cm_html.specs.Html.{Rendered, rendered, inlines_html};
 ghost use Rattle.cm_html.specs.Html.{title_html, link_start, link_html, image_start, image_html};
 ghost use Rattle.cm_html.specs.steps.AlternativeText.{alternative_text};
+ghost use Rattle.cm_html.specs.steps.HtmlParts.{code_span_html};
 
 use crate::elements::Element;
 use crate::forms::Form;
@@ -93,7 +94,7 @@ fn push_title(out: &mut Pages, target: LinkTarget<'_>) -> Result<(), AllocError>
 /// Adds a title after the value of an attribute, unless the title is empty. The quotation mark after the last
 /// value is left out.
 #[inline(always)]
-fn push_title_behind(out: &mut Pages, target: LinkTarget<'_>) -> Result<(), AllocError>
+fn push_title_after(out: &mut Pages, target: LinkTarget<'_>) -> Result<(), AllocError>
     ensures { OnOk result (out.new ++ codes "\""
         ≡ out.old ++ codes "\"" ++ title_html (led_to target.entry).1) }
 {
@@ -115,7 +116,7 @@ pub fn push_link_start(out: &mut Pages, target: LinkTarget<'_>) -> Result<(), Al
 {
     out.push_str("<a href=\"")?;
     push_dest(out, target)?;
-    push_title_behind(out, target)?;
+    push_title_after(out, target)?;
     out.push_str("\">")
 }
 
@@ -152,7 +153,7 @@ pub fn push_image_end(out: &mut Pages, target: LinkTarget<'_>) -> Result<(), All
     ensures { OnOk result (out.new
         ≡ out.old ++ codes "\"" ++ title_html (led_to target.entry).1 ++ codes " />") }
 {
-    push_title_behind(out, target)?;
+    push_title_after(out, target)?;
     out.push_str("\" />")
 }
 

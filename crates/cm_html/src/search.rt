@@ -77,7 +77,7 @@ const PLAIN_LOW: [u8; 16] = [
 
 const PLAIN_HIGH: [u8; 16] = [1, 2, 4, 8, 16, 32, 64, 128, 0, 0, 0, 0, 0, 0, 0, 0];
 
-/// The bytes that HTML doesn't have of a destination as they are.
+/// The bytes that are written differently in the HTML of a destination.
 struct Changed;
 
 impl ByteKind for Changed {

@@ -1,6 +1,7 @@
 -- Documents are told apart by their JSON.
 use Rattle.std.specs.Prelude.{◌≡◌, ◌<◌, ◌^◌, nat_lt, Bool, true, ◌&&◌, List, length, map, Some}
-use Rattle.cm_tree.specs.HeadingLevels.{all_of, all_of_items}
+use Rattle.std.specs.List.{list_all}
+use Rattle.cm_tree.specs.HeadingLevels.{all_of}
 use Rattle.cm_tree.specs.declared.tree.Block.{Block, Block-F}
 use Rattle.cm_tree.specs.declared.tree.Block.TheOpen as block
 use Rattle.cm_tree.specs.declared.tree.Block.TheFolds.{fold-Block}
@@ -20,7 +21,7 @@ is_start_in_range _ = true
 abbrev pub range_step : Block-F Bool → Bool
 range_step (block.Heading level content) = nat_lt level (2 ^ 8)
 range_step (block.Quote blocks) = all_of blocks
-range_step (block.List kind tight items) = is_start_in_range kind && all_of_items items
+range_step (block.List kind tight items) = is_start_in_range kind && list_all all_of items
 range_step _ = true
 
 abbrev pub is_in_range : Block → Bool

@@ -4,7 +4,7 @@ use Rattle.cm_tree.specs.declared.tree.Block.{Block}
 use Rattle.cm_tree.specs.declared.tree.Owner.{Owner}
 use Rattle.cm_json.specs.declared.writer.JsonWriter.{JsonWriter}
 use Rattle.cm_json.specs.Mdast.{placed, all_placed}
-use Rattle.cm_json.specs.steps.Texts.{items_text}
+use Rattle.cm_json.specs.Printing.{items_text}
 
 -- the whole text, if these are the blocks that are left of a document with these owners
 abbrev pub whole_with : JsonWriter → List Owner → List Block → List ℕ

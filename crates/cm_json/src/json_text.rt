@@ -55,6 +55,11 @@ impl JsonText {
         }
     }
 
+    /// The allocator that it takes memory from.
+    pub(crate) fn alloc(&self) -> Global {
+        self.alloc
+    }
+
     /// Adds a line feed.
     ///
     /// # Errors
@@ -116,7 +121,11 @@ impl JsonText {
     }
 
     /// The text as a string, with room for one more byte.
-    pub(crate) fn into_string(self) -> Result<String, AllocError>
+    ///
+    /// # Errors
+    ///
+    /// `AllocError` if a request for memory was refused.
+    pub fn into_string(self) -> Result<String, AllocError>
         ensures { IfOk result (λ text. string_bytes text ≡ self) }
     {
         let held = self.held.into_string()?;

@@ -1,7 +1,7 @@
 //! Phrases of JSON that are held as one byte each.
 //!
 //! In JSON the bytes below the space occur as escapes alone, so each of them can be held for a phrase. The
-//! node of a text then takes 4 bytes and the text; written, it has 26 more than the text.
+//! node of a text then takes 3 bytes and the text; written, it has 26 more than the text.
 ghost use Rattle.std.specs.Prelude.{◌≡◌, IsTrue};
 ghost use Rattle.cm_json.specs.steps.Phrases.{is_held, written};
 
@@ -14,7 +14,7 @@ pub(crate) const TEXT: &str = "\u{1}";
 
 pub(crate) const VALUE: &str = "\u{2}";
 
-pub(crate) const SOFT: &str = "\u{3}";
+pub(crate) const TEXT_END: &str = "\u{3}";
 
 pub(crate) const HARD: &str = "\u{4}";
 
@@ -110,9 +110,9 @@ pub(crate) fn phrase(b: u8) -> &'static str
     ensures { result.now ≡ written b }
 {
     match b {
-        1 => "{\"type\":\"text\",\"value\":",
+        1 => "{\"type\":\"text\",\"value\":\"",
         2 => ",\"value\":",
-        3 => "{\"type\":\"text\",\"value\":\"\\n\"}",
+        3 => "\"},",
         4 => "{\"type\":\"break\"}",
         5 => "{\"type\":\"emphasis\",\"children\":[",
         6 => "{\"type\":\"strong\",\"children\":[",

@@ -1,9 +1,9 @@
 -- How the proof goes that what is spelled reads back. It has four parts, which meet in DocumentsBack. The
 -- first two are the law of blocks (BlocksBack), the other two that of contents (ContentsBack). Each part has
 -- a folder; `refusals` and `spelling` have what the code itself is proved by. `shared` has what all parts
--- use: how each kind of node is judged and spelled (InlineKinds, BlockKinds), induction over nodes and those
--- inside (InlineInduction, BlockInduction), how a byte of a text is spelled (ByteSpellings,
--- BytesOfSpellings), and what holds of an inline that isn't refused (AcceptedLemmas). A `Speller` has the
+-- use: induction over nodes and those inside (InlineInduction, BlockInduction), how a byte of a text is
+-- spelled (ByteSpellings, BytesOfSpellings), and what holds of an inline that isn't refused (AcceptedLemmas).
+-- How each kind of node is judged and spelled are folds at a kind (InlineFolds, BlockFolds of cm_tree). A `Speller` has the
 -- blocks one after another: each is judged after what is seen of the last one, and its lines follow theirs
 -- (specs/Speller.antt, SpellerLemmas).
 --

@@ -3,7 +3,7 @@
 use Rattle.std.specs.Prelude.{ℕ, Bool, true, false, not, ◌==◌, ◌&&◌, ◌||◌, if◌then◌else◌, List, [], ◌∷◌, map, reverse, Option, Some, None, codes}
 use Rattle.std.specs.List.{list_any}
 use Rattle.std.specs.Char.{is_ascii_control}
-use Rattle.cm_text.specs.Bytes.{line_feed, carriage_return}
+use Rattle.std.specs.Str.{byte}
 use Rattle.cm_text.specs.Rules.{Rules}
 use Rattle.cm_text.specs.Addresses.{is_followed}
 use Rattle.cm_text.specs.Characters.{is_space, is_punct_by}
@@ -26,7 +26,7 @@ abbrev pub has_nul : List ℕ → Bool
 has_nul text = list_any (λ b. b == 0) text
 
 abbrev pub has_line_ending : List ℕ → Bool
-has_line_ending text = list_any (λ b. b == line_feed || b == carriage_return) text
+has_line_ending text = list_any (λ b. b == byte "\n" || b == byte "\r") text
 
 -- What the inlines around an inline see of it: what it is, and of a text its first and its last character.
 pub data Face : Type 0 where

@@ -12,3 +12,5 @@ pub mod Spelling
 pub mod steps
 pub mod Texts
 pub mod WorkedExamples
+pub mod Faces
+pub mod BetweenLines

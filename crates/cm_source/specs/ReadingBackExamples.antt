@@ -118,7 +118,7 @@ pub record ContentExamples : Type 0 where
   pub hard_break : ReadsBack (says (a ++ Hard ∷ b)) (codes "a\\\nb\n")
   pub break_in_emphasis : ReadsBack (says (Emph (a ++ Soft ∷ b) ∷ [])) (codes "*a\nb*\n")
   pub spaces_at_a_break : ReadsBack (says (Text (codes "a ") ∷ Soft ∷ words (codes " b"))) (codes "a&#32;\n&#32;b\n")
-  pub markup_behind_a_break : ReadsBack (says (a ++ Soft ∷ words (codes "- b"))) (codes "a\n\\- b\n")
+  pub markup_after_a_break : ReadsBack (says (a ++ Soft ∷ words (codes "- b"))) (codes "a\n\\- b\n")
   pub emphasis_in_a_heading : ReadsBack (block.Heading 1 (Emph a ∷ []) ∷ []) (codes "# *a*\n")
   pub break_in_a_quoted_item : ReadsBack (block.Quote (block.List Dash true (says (a ++ Hard ∷ b) ∷ []) ∷ []) ∷ []) (codes "> - a\\\n>   b\n")
 

@@ -24,13 +24,13 @@ pub record InlineRefusalExamples : Type 0 where
   pub space_inside : paragraph_refusal profile (Emph (words (codes " a")) ∷ []) ≡ Some why.EmphasisEdge
   pub plain_before_punctuation : paragraph_refusal profile (a ++ Emph (words (codes "(a")) ∷ []) ≡ Some why.EmphasisEdge
   pub plain_before_plain : paragraph_refusal profile (a ++ Emph a ∷ []) ≡ None
-  pub plain_behind_a_code_span : paragraph_refusal profile (Emph (Code (codes "a") ∷ []) ∷ a) ≡ Some why.EmphasisEdge
+  pub plain_after_a_code_span : paragraph_refusal profile (Emph (Code (codes "a") ∷ []) ∷ a) ≡ Some why.EmphasisEdge
   pub empty_code_span : paragraph_refusal profile (Code [] ∷ []) ≡ Some why.CodeSpan
   pub two_code_spans : paragraph_refusal profile (Code (codes "a") ∷ Code (codes "b") ∷ []) ≡ Some why.CodeSpan
   pub end_of_a_label : paragraph_refusal profile (Link (codes "b") [] (Code (codes "]: /u") ∷ []) ∷ []) ≡ Some why.CodeSpan
   pub end_of_a_label_later : paragraph_refusal profile (a ++ Link (codes "b") [] (Code (codes "]: /u") ∷ []) ∷ []) ≡ None
   pub html_first : paragraph_refusal profile (Html (codes "<b>") ∷ []) ≡ Some why.RawHtml
-  pub html_behind_a_break : paragraph_refusal profile (Text (codes "a") ∷ Soft ∷ Html (codes "<b>") ∷ []) ≡ Some why.RawHtml
+  pub html_after_a_break : paragraph_refusal profile (Text (codes "a") ∷ Soft ∷ Html (codes "<b>") ∷ []) ≡ Some why.RawHtml
   pub two_tags : paragraph_refusal profile (Text (codes "a") ∷ Html (codes "<b></b>") ∷ []) ≡ Some why.RawHtml
   pub autolink_as_a_declaration : paragraph_refusal profile (Text (codes "a") ∷ Html (codes "<!a@b>") ∷ []) ≡ Some why.RawHtml
   pub link_in_link : paragraph_refusal profile (Link [] [] (Image [] [] (Link [] [] a ∷ []) ∷ []) ∷ []) ≡ Some why.LinkInLink
@@ -65,4 +65,4 @@ pub record RefusalExamples : Type 0 where
   pub list_first : refusal_of profile (block.List Dash true ((block.List Plus true (paragraph_a ∷ []) ∷ []) ∷ []) ∷ []) ≡ Some why.ItemBeginsWithList
   pub loose_item_of_one : refusal_of profile (block.List Dash false (paragraph_a ∷ []) ∷ []) ≡ Some why.Looseness
   pub tight_item_of_two : refusal_of profile (block.List Dash true ((paragraph_a ++ paragraph_a) ∷ []) ∷ []) ≡ Some why.Looseness
-  pub list_from_2_behind_a_paragraph : refusal_of profile (block.List Dash true ((paragraph_a ++ block.List (Dot 2) true (paragraph_a ∷ []) ∷ []) ∷ []) ∷ []) ≡ Some why.Looseness
+  pub list_from_2_after_a_paragraph : refusal_of profile (block.List Dash true ((paragraph_a ++ block.List (Dot 2) true (paragraph_a ∷ []) ∷ []) ∷ []) ∷ []) ≡ Some why.Looseness

@@ -2,7 +2,7 @@
 -- first in document order, parents first.
 use Rattle.std.specs.Prelude.{◌≡◌, ℕ, ◌^◌, Bool, true, false, not, ◌==◌, ◌&&◌, ◌||◌, nat_le, List, [], ◌∷◌, map, Option, Some, None}
 use Rattle.std.specs.List.{list_any, list_all}
-use Rattle.cm_text.specs.Bytes.{line_feed, carriage_return, less_than}
+use Rattle.std.specs.Str.{byte, bytes_eq}
 use Rattle.cm_text.specs.Rules.{Rules}
 use Rattle.cm_text.specs.Lines.{lines_of, plain_lines_of}
 use Rattle.cm_tree.specs.declared.tree.Block.{Block, Block-F}
@@ -11,7 +11,7 @@ use Rattle.cm_tree.specs.declared.tree.Block.TheFolds.{fold-Block}
 use Rattle.cm_tree.specs.Followed.{is_read_info}
 use Rattle.cm_tree.specs.declared.tree.ListKind.{ListKind}
 use Rattle.cm_tree.specs.declared.tree.ListKind.TheVariants.{Dot, Paren}
-use Rattle.cm_scan.specs.Words.{is_empty, begins_with, same_bytes, ◌<|>◌}
+use Rattle.cm_scan.specs.Words.{is_empty, begins_with, ◌<|>◌}
 use Rattle.cm_scan.specs.spans.Autolinks.{ends_with}
 use Rattle.cm_scan.specs.blocks.LineForms.{is_same_kind, most_digits}
 use Rattle.cm_scan.specs.blocks.HtmlBlocks.{html_start, is_html_end, ends_at_blank_line}
@@ -73,7 +73,7 @@ begins_too_high kind = false
 
 -- The text of a code block is empty or ends with a line feed, and has no carriage return.
 abbrev pub is_code_text : List ℕ → Bool
-is_code_text text = (is_empty text || ends_with line_feed text) && not (list_any (λ b. b == carriage_return) text)
+is_code_text text = (is_empty text || ends_with (byte "\n") text) && not (list_any (λ b. b == byte "\r") text)
 
 -- the last of some lines, or no text if there are none
 abbrev pub last_line : List (List ℕ) → List ℕ
@@ -95,13 +95,13 @@ is_html_ended rules text = elim (html_start rules (first_line (lines_of text))) 
 
 -- one HTML block with this text
 abbrev pub is_html_part : List ℕ → Parts → Bool
-is_html_part text (leaf (html read) lines none) = same_bytes read text
+is_html_part text (leaf (html read) lines none) = bytes_eq read text
 is_html_part text parts = false
 
 -- The text of an HTML block starts with `<`. Read alone it is this one block, and its last line contains the end of its kind,
 -- if its kind has one.
 abbrev pub is_html_block : Rules → List ℕ → Bool
-is_html_block rules text = begins_with less_than text && is_html_part text (parts_of rules (plain_lines_of text)) && is_html_ended rules text
+is_html_block rules text = begins_with (byte "<") text && is_html_part text (parts_of rules (plain_lines_of text)) && is_html_ended rules text
 
 -- A block as it is judged: what others see of it, and why it is refused after another.
 pub record JudgedBlock : Type 0 where
@@ -121,15 +121,15 @@ refusal_of_items [] = None
 refusal_of_items (item ∷ items) = refusal_of_all None item <|> refusal_of_items items
 
 -- a list of the same kind comes directly before
-abbrev pub is_behind_same : ListKind → Option BlockFace → Bool
-is_behind_same kind (Some (ListFace other filled)) = is_same_kind kind other
-is_behind_same kind _ = false
+abbrev pub is_after_same : ListKind → Option BlockFace → Bool
+is_after_same kind (Some (ListFace other filled)) = is_same_kind kind other
+is_after_same kind _ = false
 
 -- A list is refused if it has no items or starts with a number of too many digits, if it directly follows a list of its kind, if an item
 -- starts with a list, or if it isn't as tight or loose as it says.
 abbrev pub list_reasons : ListKind → (tight : Bool) → List (List BlockFace) → Option BlockFace → List (Bool × Why)
 list_reasons kind tight items before =
-    (not (list_any (λ item. true) items) || begins_too_high kind, Shape) ∷ (is_behind_same kind before, AdjacentLists)
+    (not (list_any (λ item. true) items) || begins_too_high kind, Shape) ∷ (is_after_same kind before, AdjacentLists)
     ∷ (list_any is_list items, ItemBeginsWithList) ∷ (not (is_as_said tight items), Looseness) ∷ []
 
 -- the first item of a list has a block

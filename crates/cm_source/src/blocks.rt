@@ -15,6 +15,9 @@ use crate::texts::longest_run;
 use cm_tree::{Block, Inline, ListKind};
 use std::alloc::AllocError;
 
+/// The line of a thematic break.
+const BREAK: &str = "___";
+
 /// Spells a paragraph.
 fn spell_paragraph(source: &mut SourceLines, content: &[Inline]) -> Result<(), AllocError>
     ensures { OnOk result (Writes source.old source.new (parted_lines (spelled_content content.now))) }
@@ -104,7 +107,7 @@ pub(crate) fn spell_block(source: &mut SourceLines, block: &Block) -> Result<(),
         Block::Heading { level, content } => spell_heading(source, *level, content.as_slice()),
         Block::Code { info, text } => spell_code_block(source, info.as_str(), text.as_str()),
         Block::Html { text } => source.push_ended_lines(text.as_str()),
-        Block::Break => source.push_line("___"),
+        Block::Break => source.push_line(BREAK),
         Block::Definition { .. } => Ok(()),
         Block::Quote(blocks) => spell_quote(source, blocks.as_slice()),
         Block::List { kind, tight, items } => {

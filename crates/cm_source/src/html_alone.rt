@@ -35,11 +35,11 @@ fn all_fit(kind: HtmlKind, text: &str) -> bool
 {
     let mut rest = text;
     while let Some(at) = find_byte(b'\n', rest.as_bytes()) {
-        let (line, behind) = cut_at(rest, at);
-        if !fits(kind, line, behind.is_empty()) {
+        let (line, beyond) = cut_at(rest, at);
+        if !fits(kind, line, beyond.is_empty()) {
             return false;
         }
-        rest = behind;
+        rest = beyond;
     }
     rest.is_empty() || fits(kind, rest, true)
 }

@@ -9,9 +9,10 @@ ghost use Rattle.cm_source.specs.Answers.{ok_unless};
 ghost use Rattle.cm_source.specs.InlineRefusals.{refused, has_nul, paragraph_refusal, heading_refusal};
 ghost use Rattle.cm_source.specs.Refusals.{is_list, has_two, begins_late, can_follow, is_tight_item};
 ghost use Rattle.cm_source.specs.Refusals.{is_as_said, begins_too_high, is_code_text, code_reasons};
-ghost use Rattle.cm_source.specs.Refusals.{is_html_block, faces, judged_block, is_behind_same};
+ghost use Rattle.cm_source.specs.Refusals.{is_html_block, faces, judged_block, is_after_same};
 ghost use Rattle.cm_source.specs.Refusals.{list_reasons, is_filled, refusal_of_all, refusal_of};
-ghost use Rattle.cm_source.specs.steps.BlockFaces.{shown, seen, is_paragraph, faces_of_items};
+ghost use Rattle.cm_source.specs.steps.BlockFaces.{is_paragraph, faces_of_items};
+ghost use Rattle.cm_source.specs.Faces.{shown, seen};
 
 use crate::html_alone::is_html_block;
 use crate::inline_refusals::{check_in_heading, check_in_paragraph, has_nul, has_nul_in};
@@ -146,8 +147,8 @@ fn begins_too_high(kind: ListKind) -> bool
 }
 
 /// Whether a list of the same kind is right before.
-fn is_behind_same(kind: ListKind, before: Option<Face>) -> bool
-    ensures { result ≡ is_behind_same kind (seen before) }
+fn is_after_same(kind: ListKind, before: Option<Face>) -> bool
+    ensures { result ≡ is_after_same kind (seen before) }
 {
     match before {
         Some(Face::List { kind: other, .. }) => is_same_kind(kind, other),
@@ -196,7 +197,7 @@ fn check_list(
         ≡ ok_unless (refused (list_reasons kind tight (faces_of_items rules items.now) (seen before))) }
 {
     refuse_if(is_malformed(kind, items), Why::Shape)?;
-    refuse_if(is_behind_same(kind, before), Why::AdjacentLists)?;
+    refuse_if(is_after_same(kind, before), Why::AdjacentLists)?;
     refuse_if(any_begins_with_list(items), Why::ItemBeginsWithList)?;
     refuse_if(!is_as_said(tight, items), Why::Looseness)
 }

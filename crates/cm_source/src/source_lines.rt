@@ -66,7 +66,8 @@ pub(crate) struct SourceLines {
 }
 
 impl SourceLines {
-    ghost use Rattle.cm_source.specs.steps.WrittenLines.{IsBetween, BeginsLine, Ends};
+    ghost use Rattle.cm_source.specs.steps.WrittenLines.{BeginsLine, Ends};
+    ghost use Rattle.cm_source.specs.BetweenLines.{IsBetween};
     ghost use Rattle.cm_source.specs.steps.WrittenLines.{Lays, Writes, Enters, Leaves};
 
     /// No line.
@@ -133,10 +134,10 @@ impl SourceLines {
     {
         let mut rest = text;
         while let Some(at) = find_byte(b'\n', rest.as_bytes()) {
-            let (line, behind) = cut_at(rest, at);
+            let (line, beyond) = cut_at(rest, at);
             self.push(line)?;
             self.break_line()?;
-            rest = behind;
+            rest = beyond;
         }
         self.push(rest)
     }
@@ -164,9 +165,9 @@ impl SourceLines {
     {
         let mut rest = text;
         while let Some(at) = find_byte(b'\n', rest.as_bytes()) {
-            let (line, behind) = cut_at(rest, at);
+            let (line, beyond) = cut_at(rest, at);
             self.push_line(line)?;
-            rest = behind;
+            rest = beyond;
         }
         if rest.is_empty() {
             return Ok(());

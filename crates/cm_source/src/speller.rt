@@ -14,7 +14,7 @@ ghost use Rattle.cm_source.specs.declared.fault.SourceFault.TheVariants as fault
 ghost use Rattle.cm_source.specs.Refusals.{judged_block, IsSpellable};
 ghost use Rattle.cm_source.specs.Speller.{HasSpelled, Refuses};
 ghost use Rattle.cm_source.specs.Spelling.{gap, lines_of_block, spelling_of};
-ghost use Rattle.cm_source.specs.steps.BlockFaces.{seen};
+ghost use Rattle.cm_source.specs.Faces.{seen};
 ghost use Rattle.cm_source.specs.steps.WrittenLines.{Writes};
 
 use crate::blocks::{spell_block, spell_blocks, spell_gap};

@@ -102,9 +102,9 @@ pub(crate) fn push_text(
         return push_to_end(out, text, last);
     }
     match text.strip_prefix(' ') {
-        Some(behind) => {
+        Some(beyond) => {
             push_numbered(out, b' ')?;
-            push_to_end(out, behind, last)
+            push_to_end(out, beyond, last)
         }
         None => push_to_end(out, text, last),
     }

@@ -6,3 +6,5 @@ pub mod IndexLemmas
 pub mod EntryLemmas
 pub mod RawWalks
 pub mod RawTreeLemmas
+pub mod BlockFolds
+pub mod InlineFolds

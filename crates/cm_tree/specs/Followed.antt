@@ -1,7 +1,7 @@
 -- Trees that contain only what the rules read: each link and image has an address that they follow, and the info string of each code
 -- block is one that they leave as it is (CommonMark 0.31.2, 4.5 Fenced code blocks, 6.3 Links, 6.4 Images).
 use Rattle.std.specs.Prelude.{ℕ, ◌==◌, Bool, true, not, ◌&&◌, ◌||◌, List, map}
-use Rattle.std.specs.List.{list_any}
+use Rattle.std.specs.List.{list_any, list_all}
 use Rattle.cm_text.specs.Rules.{Rules}
 use Rattle.cm_text.specs.Addresses.{is_followed}
 use Rattle.cm_tree.specs.declared.tree.Inline.{Inline, Inline-F}
@@ -10,7 +10,7 @@ use Rattle.cm_tree.specs.declared.tree.Inline.TheFolds.{fold-Inline}
 use Rattle.cm_tree.specs.declared.tree.Block.{Block, Block-F}
 use Rattle.cm_tree.specs.declared.tree.Block.TheOpen as block
 use Rattle.cm_tree.specs.declared.tree.Block.TheFolds.{fold-Block}
-use Rattle.cm_tree.specs.HeadingLevels.{all_of, all_of_items}
+use Rattle.cm_tree.specs.HeadingLevels.{all_of}
 
 -- One inline, given the value for each inline of its content. The content of an image is its alternative text, which has no address.
 abbrev pub followed_inline_step : Rules → Inline-F Bool → Bool
@@ -43,7 +43,7 @@ followed_block_step rules (block.Paragraph content) = inlines_are_followed rules
 followed_block_step rules (block.Heading level content) = inlines_are_followed rules content
 followed_block_step rules (block.Code info text) = is_read_info rules info
 followed_block_step rules (block.Quote blocks) = all_of blocks
-followed_block_step rules (block.List kind tight items) = all_of_items items
+followed_block_step rules (block.List kind tight items) = list_all all_of items
 followed_block_step rules _ = true
 
 -- the same of a block

@@ -1,5 +1,6 @@
 -- Raw HTML in a tree (CommonMark 0.31.2, 4.6 HTML blocks, 6.6 Raw HTML).
-use Rattle.std.specs.Prelude.{Bool, true, false, ◌||◌, List, [], ◌∷◌, map}
+use Rattle.std.specs.Prelude.{Bool, true, false, List, map}
+use Rattle.std.specs.List.{list_any}
 use Rattle.cm_tree.specs.declared.tree.Inline.{Inline, Inline-F}
 use Rattle.cm_tree.specs.declared.tree.Inline.TheOpen as inline
 use Rattle.cm_tree.specs.declared.tree.Inline.TheFolds.{fold-Inline}
@@ -9,8 +10,7 @@ use Rattle.cm_tree.specs.declared.tree.Block.TheFolds.{fold-Block}
 
 -- one of the values is true
 abbrev pub any_of : List Bool → Bool
-any_of [] = false
-any_of (answer ∷ answers) = answer || any_of answers
+any_of answers = list_any (λ answer. answer) answers
 
 -- One inline, given the value for each inline of its content. The content of an image is its alternative text, and raw HTML in
 -- that is text.
@@ -29,18 +29,13 @@ inline_has_raw = fold-Inline Bool raw_inline_step
 abbrev pub inlines_have_raw : List Inline → Bool
 inlines_have_raw inlines = any_of (map inline_has_raw inlines)
 
--- one of the values for some items is true
-abbrev pub any_of_items : List (List Bool) → Bool
-any_of_items [] = false
-any_of_items (item ∷ items) = any_of item || any_of_items items
-
 -- one block, given the value for each block inside
 abbrev pub raw_block_step : Block-F Bool → Bool
 raw_block_step (block.Paragraph content) = inlines_have_raw content
 raw_block_step (block.Heading level content) = inlines_have_raw content
 raw_block_step (block.Html text) = true
 raw_block_step (block.Quote blocks) = any_of blocks
-raw_block_step (block.List kind tight items) = any_of_items items
+raw_block_step (block.List kind tight items) = list_any any_of items
 raw_block_step _ = false
 
 abbrev pub block_has_raw : Block → Bool

@@ -7,7 +7,7 @@ ghost use Rattle.std.specs.Prelude.{true, false, None, OnOk, OnErr, IfOk, IfSome
 ghost use Rattle.cm_text.specs.Labels.{fold_label};
 ghost use Rattle.cm_tree.specs.Definitions.{target_under, target_numbered, add_first, target_if_followed};
 ghost use Rattle.cm_tree.specs.LinkTargets.{led_to};
-ghost use Rattle.cm_text.specs.steps.LabelNumbers.{number_of};
+ghost use Rattle.cm_text.specs.LabelNumbers.{number_of};
 ghost use Rattle.cm_tree.specs.steps.LabelIndex.{hash_of, GoesIn, IsSame, IsThere};
 
 use crate::entries::{Entry, entry_under, in_slots, indexed};

@@ -5,9 +5,10 @@
 //! and its item's blocks. It would free them much later, which is when an allocator is slowest. The content
 //! of a quote or item is moved to the end when that closes, so each block is moved twice at most.
 //!
-//! A place has 32 bits, which halves the size of a block. A document that needs more is `TooLarge`; none
-//! within the limits does, because a text has at most 2^30 bytes, each of which becomes at most three.
-ghost use Rattle.std.specs.Prelude.{◌≡◌, ◌<◌, ◌≤◌, ◌+◌, ◌^◌, [], ◌++◌, length, get_or, nat_le};
+//! A place has 32 bits, which halves the size of a block. A document that needs more is `TooLarge`, which takes
+//! a [`FarPlace`]; none within the limits does, because a text has at most 2^30 bytes, each of which becomes at
+//! most three.
+ghost use Rattle.std.specs.Prelude.{◌≡◌, ◌≢◌, ◌<◌, ◌≤◌, ◌+◌, ◌^◌, [], ◌++◌, length, get_or, nat_le};
 ghost use Rattle.std.specs.Prelude.{IfOk, IfErr, OnOk};
 ghost use Rattle.std.specs.List.{slice_range};
 ghost use Rattle.cm_tree.specs.RawBlocks.{raw_inlines, block_in, blocks_in, item_in, items_in};
@@ -87,6 +88,13 @@ pub struct RawItem {
     pub to: u32,
 }
 
+/// Evidence that a place needs more than 32 bits. Only the calls of [`RawBlocks`] make one, so no other code
+/// can say that a document is too large.
+#[derive(Clone, Copy, Debug, PartialEq, Eq)]
+pub struct FarPlace {
+    made_here: (),
+}
+
 /// Why a raw block isn't made.
 #[derive(Clone, Copy, Debug, PartialEq, Eq, Drop, Error)]
 pub enum RawFault {
@@ -95,7 +103,7 @@ pub enum RawFault {
     NoMemory,
     /// The texts would have 2^32 bytes or more, or there would be as many blocks or items.
     #[error("document too large")]
-    TooLarge,
+    TooLarge(FarPlace),
 }
 
 impl From<AllocError> for RawFault {
@@ -164,7 +172,7 @@ fn place(at: usize) -> Result<u32, RawFault>
 {
     match u32::try_from(at) {
         Ok(place) => Ok(place),
-        Err(_) => Err(RawFault::TooLarge),
+        Err(_) => Err(RawFault::TooLarge(FarPlace { made_here: () })),
     }
 }
 
@@ -235,7 +243,7 @@ impl RawBlocks {
         ensures end { IfOk result (λ places. places.1 ≡ length self.new.text) }
         ensures between { IfOk result (λ places. IsBetween self.new.text places.0 places.1) }
         ensures grows { Grows self.old self.new }
-        ensures large { IfErr result (λ fault. fault ≡ faults.TooLarge
+        ensures large { IfErr result (λ fault. fault ≢ faults.NoMemory
             → 2 ^ 32 ≤ length self.old.text + length text.now) }
     {
         let from = place(self.text.len())?;
@@ -256,7 +264,7 @@ impl RawBlocks {
             block_in self.new block ≡ trees.Paragraph (raw_inlines source.now)) }
         ensures placed { IfOk result (λ block. IsPlaced self.new block) }
         ensures grows { Grows self.old self.new }
-        ensures large { IfErr result (λ fault. fault ≡ faults.TooLarge
+        ensures large { IfErr result (λ fault. fault ≢ faults.NoMemory
             → 2 ^ 32 ≤ length self.old.text + length source.now) }
     {
         let (from, to) = self.push_text(source)?;
@@ -274,7 +282,7 @@ impl RawBlocks {
             block_in self.new block ≡ trees.Heading level (raw_inlines source.now)) }
         ensures placed { IfOk result (λ block. IsPlaced self.new block) }
         ensures grows { Grows self.old self.new }
-        ensures large { IfErr result (λ fault. fault ≡ faults.TooLarge
+        ensures large { IfErr result (λ fault. fault ≢ faults.NoMemory
             → 2 ^ 32 ≤ length self.old.text + length source.now) }
     {
         let (from, to) = self.push_text(source)?;
@@ -292,14 +300,14 @@ impl RawBlocks {
         ensures block { IfOk result (λ block. block_in self.new block ≡ trees.Code info.now text.now) }
         ensures placed { IfOk result (λ block. IsPlaced self.new block) }
         ensures grows { Grows self.old self.new }
-        ensures large { IfErr result (λ fault. fault ≡ faults.TooLarge
+        ensures large { IfErr result (λ fault. fault ≢ faults.NoMemory
             → 2 ^ 32 ≤ length self.old.text + length info.now + length text.now) }
     {
         let (at, _) = self.push_text(info)?;
-        let (behind, to) = self.push_text(text)?;
+        let (beyond, to) = self.push_text(text)?;
         Ok(RawBlock::Code {
             info: at,
-            text: behind,
+            text: beyond,
             to,
         })
     }
@@ -314,7 +322,7 @@ impl RawBlocks {
         ensures block { IfOk result (λ block. block_in self.new block ≡ trees.Html text.now) }
         ensures placed { IfOk result (λ block. IsPlaced self.new block) }
         ensures grows { Grows self.old self.new }
-        ensures large { IfErr result (λ fault. fault ≡ faults.TooLarge
+        ensures large { IfErr result (λ fault. fault ≢ faults.NoMemory
             → 2 ^ 32 ≤ length self.old.text + length text.now) }
     {
         let (from, to) = self.push_text(text)?;
@@ -333,7 +341,7 @@ impl RawBlocks {
             block_in self.new block ≡ trees.Definition label.now dest.now title.now) }
         ensures placed { IfOk result (λ block. IsPlaced self.new block) }
         ensures grows { Grows self.old self.new }
-        ensures large { IfErr result (λ fault. fault ≡ faults.TooLarge
+        ensures large { IfErr result (λ fault. fault ≢ faults.NoMemory
             → 2 ^ 32 ≤ length self.old.text + length label.now + length dest.now + length title.now) }
     {
         let (first, _) = self.push_text(label)?;
@@ -358,7 +366,7 @@ impl RawBlocks {
         ensures item { IfOk result (λ item. item_in self.new item ≡ blocks_in self.old blocks.now) }
         ensures placed { IfOk result (λ item. IsItem self.new item) }
         ensures grows { Grows self.old self.new }
-        ensures large { IfErr result (λ fault. fault ≡ faults.TooLarge
+        ensures large { IfErr result (λ fault. fault ≢ faults.NoMemory
             → 2 ^ 32 ≤ length self.old.blocks + length blocks.now) }
     {
         let from = place(self.blocks.len())?;
@@ -379,7 +387,7 @@ impl RawBlocks {
             block_in self.new block ≡ trees.Quote (blocks_in self.old blocks.now)) }
         ensures placed { IfOk result (λ block. IsPlaced self.new block) }
         ensures grows { Grows self.old self.new }
-        ensures large { IfErr result (λ fault. fault ≡ faults.TooLarge
+        ensures large { IfErr result (λ fault. fault ≢ faults.NoMemory
             → 2 ^ 32 ≤ length self.old.blocks + length blocks.now) }
     {
         let RawItem { from, to } = self.item(blocks)?;
@@ -403,7 +411,7 @@ impl RawBlocks {
             block_in self.new block ≡ trees.List kind tight (items_in self.old items.now)) }
         ensures placed { IfOk result (λ block. IsPlaced self.new block) }
         ensures grows { Grows self.old self.new }
-        ensures large { IfErr result (λ fault. fault ≡ faults.TooLarge
+        ensures large { IfErr result (λ fault. fault ≢ faults.NoMemory
             → 2 ^ 32 ≤ length self.old.items + length items.now) }
     {
         let from = place(self.items.len())?;

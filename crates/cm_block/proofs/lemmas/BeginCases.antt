@@ -5,7 +5,7 @@ use Rattle.cm_text.specs.Rules.{Rules}
 use Rattle.cm_text.specs.Lines.{LineView}
 use Rattle.cm_scan.specs.blocks.Lines.{is_blank, marks}
 use Rattle.cm_scan.specs.blocks.Starts.{Start, IndentedCode, QuoteMarker, AtxHeading, OpeningFence, HtmlStart, BreakLine, ItemStart, TextLine, start_of}
-use Rattle.cm_scan.proofs.lemmas.blocks.LineSizes.{marks-behind_quote_marker, marks-first_content}
+use Rattle.cm_scan.proofs.lemmas.blocks.LineSizes.{marks-after_quote_marker, marks-first_content}
 use Rattle.cm_block.specs.OpenLeaf.{LineOpens, begins_nothing, begins_leaf, begins_quote, begins_item, begin_of_start, begin_of}
 use Rattle.cm_block.specs.Machine.{Change, change, in_quote, in_item, begin_by, begin_within, begin}
 
@@ -22,7 +22,7 @@ inner-less rules line = go (is_blank line) refl
   where
     of_start : (start : Start) → is_blank line ≡ false → OfInner (λ inner. marks inner.text < marks line.text) (begin_of_start rules start line)
     of_start IndentedCode e = tt
-    of_start QuoteMarker e = marks-behind_quote_marker line e
+    of_start QuoteMarker e = marks-after_quote_marker line e
     of_start (AtxHeading h) e = tt
     of_start (OpeningFence fence) e = tt
     of_start (HtmlStart kind) e = tt

@@ -13,7 +13,7 @@ use Rattle.cm_tree.specs.declared.tree.ListKind.{ListKind}
 use Rattle.cm_scan.specs.blocks.LineForms.{is_same_kind}
 use Rattle.cm_scan.specs.blocks.Lines.{marks}
 use Rattle.cm_scan.specs.blocks.Parts.{LeafPart, paragraph, heading, code, html, thematic_break, definition, leaf_block}
-use Rattle.cm_block.specs.OpenLeaf.{OpenLeaf, closed_leaves, blank_lines_behind, LeafLine, stays_open, is_last, LineOpens, begins_nothing, begins_leaf, begins_quote, begins_item, begin_of}
+use Rattle.cm_block.specs.OpenLeaf.{OpenLeaf, closed_leaves, blank_lines_after, LeafLine, stays_open, is_last, LineOpens, begins_nothing, begins_leaf, begins_quote, begins_item, begin_of}
 use Rattle.cm_block.specs.Machine.{Open, in_leaf, in_quote, in_item}
 use Rattle.cm_block.specs.Level.{OpenList, Level, empty_level, with_list, closed_blocks, push_blank, block_opens, list_opens, list_goes_on, item_opens, item_opens_in, block_closes, Item, with_item, item_closes}
 use Rattle.cm_block.specs.Stack.{Owned, Stack, item_of, close_leaves, push_blanks, close_open, push_leaf_line, push_by, push_within, push_begin}
@@ -107,7 +107,7 @@ count-leaves (x ∷ xs) v = omega (arith, count-leaves xs (block_closes v (leaf_
 
 pub count-closing-leaf : (v : Level) (x : OpenLeaf) → count_in (close_open v (in_leaf x)) ≡ count_in v
 unfolding close_open
-count-closing-leaf v x = count-blanks (blank_lines_behind x) (close_leaves v (closed_leaves x)) ∙ count-leaves (closed_leaves x) v
+count-closing-leaf v x = count-blanks (blank_lines_after x) (close_leaves v (closed_leaves x)) ∙ count-leaves (closed_leaves x) v
 
 pub count-closing : (now : Open Level) (v : Level) → count_in (close_open v now) ≤ count_in v + count_open now
 unfolding close_open count_open

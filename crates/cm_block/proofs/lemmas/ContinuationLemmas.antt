@@ -11,7 +11,7 @@ use Rattle.cm_text.specs.Lines.{LineView}
 use Rattle.cm_text.specs.LineText.{is_line, tabs}
 use Rattle.cm_scan.specs.Words.{given, is_blank_text, run_length}
 use Rattle.cm_scan.specs.blocks.Lines.{is_blank, content_of, past, as_lazy}
-use Rattle.cm_scan.specs.blocks.Starts.{Start, IndentedCode, QuoteMarker, AtxHeading, OpeningFence, HtmlStart, BreakLine, ItemStart, TextLine, start_of, Continuation, Stays, StaysIfOpen, Leaves, may_be_lazy, continuation_if_lazy, behind_quote_marker, quote_continuation, continuation_in_quote, behind_marker, content_offset, content_column, first_content, continuation_in_item}
+use Rattle.cm_scan.specs.blocks.Starts.{Start, IndentedCode, QuoteMarker, AtxHeading, OpeningFence, HtmlStart, BreakLine, ItemStart, TextLine, start_of, Continuation, Stays, StaysIfOpen, Leaves, may_be_lazy, continuation_if_lazy, after_quote_marker, quote_continuation, continuation_in_quote, after_marker, content_offset, content_column, first_content, continuation_in_item}
 use Rattle.cm_scan.specs.blocks.LineForms.{ItemMarker}
 use Rattle.cm_scan.specs.laws.PartLaws.{goes_inward}
 use Rattle.cm_text.specs.Indentation.{indent_of, strip_columns, after_indent}
@@ -63,7 +63,7 @@ module _ (rules : Rules) where
 -- continuations in a quote
 
 module _ (rules : Rules) where
-  pub in_quote_as : (line : LineView) → start_of rules line ≡ QuoteMarker → continuation_in_quote rules line ≡ Stays (behind_quote_marker line)
+  pub in_quote_as : (line : LineView) → start_of rules line ≡ QuoteMarker → continuation_in_quote rules line ≡ Stays (after_quote_marker line)
   unfolding continuation_in_quote
   in_quote_as line e = ap (λ start. quote_continuation rules start line) e
 
@@ -204,33 +204,33 @@ past_content line n k view all left none =
 
 -- the columns after an item's marker
 
-pub offset_blank : (behind : LineView) → is_blank behind ≡ true → 1 ≡ content_offset behind
+pub offset_blank : (beyond : LineView) → is_blank beyond ≡ true → 1 ≡ content_offset beyond
 unfolding content_offset
-offset_blank behind e = grind (arith, e)
+offset_blank beyond e = grind (arith, e)
 
-pub offset_far : (behind : LineView) → is_blank behind ≡ false → 4 < indent_of behind → 1 ≡ content_offset behind
+pub offset_far : (beyond : LineView) → is_blank beyond ≡ false → 4 < indent_of beyond → 1 ≡ content_offset beyond
 unfolding content_offset
-offset_far behind e n = grind (arith, e, n)
+offset_far beyond e n = grind (arith, e, n)
 
-pub offset_near : (behind : LineView) → is_blank behind ≡ false → indent_of behind ≤ 4 → indent_of behind ≡ content_offset behind
+pub offset_near : (beyond : LineView) → is_blank beyond ≡ false → indent_of beyond ≤ 4 → indent_of beyond ≡ content_offset beyond
 unfolding content_offset
-offset_near behind e n = grind (arith, e, n)
+offset_near beyond e n = grind (arith, e, n)
 
-pub behind_quote : (line inner : LineView) (view : View) → seen_view view ≡ past 1 line → inner ≡ strip_columns 1 (seen_view view) → inner ≡ behind_quote_marker line
-unfolding behind_quote_marker
-behind_quote line inner view at is = is ∙ ap (strip_columns 1) at
+pub after_quote : (line inner : LineView) (view : View) → seen_view view ≡ past 1 line → inner ≡ strip_columns 1 (seen_view view) → inner ≡ after_quote_marker line
+unfolding after_quote_marker
+after_quote line inner view at is = is ∙ ap (strip_columns 1) at
 
-pub column_is : (marker : ItemMarker) (line behind : LineView) (indent offset : ℕ) → behind ≡ behind_marker marker line → indent ≡ indent_of line → offset ≡ content_offset behind
+pub column_is : (marker : ItemMarker) (line beyond : LineView) (indent offset : ℕ) → beyond ≡ after_marker marker line → indent ≡ indent_of line → offset ≡ content_offset beyond
     → indent + (marker.digits + 1) + offset ≡ content_column marker line
 unfolding content_column
-column_is marker line behind indent offset at in_front is =
-    let there : offset ≡ content_offset (behind_marker marker line) = is ∙ ap content_offset at in
+column_is marker line beyond indent offset at in_front is =
+    let there : offset ≡ content_offset (after_marker marker line) = is ∙ ap content_offset at in
     omega (arith, in_front, there)
 
-pub first_is_content : (marker : ItemMarker) (line behind : LineView) (offset : ℕ) → behind ≡ behind_marker marker line → offset ≡ content_offset behind
-    → strip_columns offset behind ≡ first_content marker line
+pub first_is_content : (marker : ItemMarker) (line beyond : LineView) (offset : ℕ) → beyond ≡ after_marker marker line → offset ≡ content_offset beyond
+    → strip_columns offset beyond ≡ first_content marker line
 unfolding first_content
-first_is_content marker line behind offset at is = ap₂ strip_columns (is ∙ ap content_offset at) at
+first_is_content marker line beyond offset at is = ap₂ strip_columns (is ∙ ap content_offset at) at
 
 -- the spaces at the start of a text, and what is after them
 
@@ -269,24 +269,24 @@ spaces-front (b ∷ bs) = go (b == 32) refl (spaces-front bs)
 replicate-more : (n m : ℕ) (text : List ℕ) → replicate (n + m) 32 ++ text ≡ replicate n 32 ++ (replicate m 32 ++ text)
 replicate-more n m text = ap (λ xs. xs ++ text) (sym (replicate-append-replicate n m 32)) ∙ append_assoc (replicate n 32) (replicate m 32) text
 
-line-behind : (n : ℕ) (rest : List ℕ) → is_line (replicate n 32 ++ rest) ≡ true → is_line rest ≡ true
-line-behind zero rest h = h
-line-behind (suc n) rest h = line-behind n rest h
+line-beyond : (n : ℕ) (rest : List ℕ) → is_line (replicate n 32 ++ rest) ≡ true → is_line rest ≡ true
+line-beyond zero rest h = h
+line-beyond (suc n) rest h = line-beyond n rest h
 
-tabs-behind : (n : ℕ) (rest : List ℕ) → tabs (replicate n 32 ++ rest) ≡ tabs rest
-tabs-behind zero rest = refl
-tabs-behind (suc n) rest = tabs-behind n rest
+tabs-beyond : (n : ℕ) (rest : List ℕ) → tabs (replicate n 32 ++ rest) ≡ tabs rest
+tabs-beyond zero rest = refl
+tabs-beyond (suc n) rest = tabs-beyond n rest
 
-module _ (text rest : List ℕ) (spaces : ℕ) (run : spaces ≡ run_length 32 text) (behind : rest ≡ drop spaces text) where
+module _ (text rest : List ℕ) (spaces : ℕ) (run : spaces ≡ run_length 32 text) (beyond : rest ≡ drop spaces text) where
   front : replicate spaces 32 ++ rest ≡ text
-  front = ap₂ (λ n t. replicate n 32 ++ t) run (behind ∙ ap (λ n. drop n text) run) ∙ spaces-front text
+  front = ap₂ (λ n t. replicate n 32 ++ t) run (beyond ∙ ap (λ n. drop n text) run) ∙ spaces-front text
 
   pub columns_line : is_line text ≡ true → is_line rest ≡ true
-  columns_line h = line-behind spaces rest (ap is_line front ∙ h)
+  columns_line h = line-beyond spaces rest (ap is_line front ∙ h)
 
   pub columns_fit : (before : ℕ) → before + length text + 3 * tabs text < 2 ^ 64 → before + spaces + length rest + 3 * tabs rest < 2 ^ 64
   columns_fit before h =
-      omega (arith, h, ap length front, length-append (replicate spaces 32) rest, length-replicate {A = ℕ} spaces 32, ap tabs front, tabs-behind spaces rest)
+      omega (arith, h, ap length front, length-append (replicate spaces 32) rest, length-replicate {A = ℕ} spaces 32, ap tabs front, tabs-beyond spaces rest)
 
   pub columns_seen : (n : ℕ) → replicate (n + spaces) 32 ++ rest ≡ replicate n 32 ++ text
   columns_seen n = replicate-more n spaces rest ∙ ap (λ t. replicate n 32 ++ t) front

@@ -18,7 +18,7 @@ use Rattle.cm_scan.specs.laws.PartLaws.{goes_inward, AreLines}
 use Rattle.cm_scan.specs.laws.Looseness.{line_total, items_total}
 use Rattle.cm_scan.proofs.lemmas.blocks.OwnersOfLines.{one_owner_a_line}
 use Rattle.cm_scan.proofs.lemmas.blocks.CountedLines.{one_owner}
-use Rattle.cm_block.specs.OpenLeaf.{OpenLeaf, no_leaf, closed_leaves, blank_lines_behind, LeafLine, stays_open, is_last, line_of_leaf, LineOpens, begins_nothing, begins_leaf, begins_quote, begins_item, begin_of}
+use Rattle.cm_block.specs.OpenLeaf.{OpenLeaf, no_leaf, closed_leaves, blank_lines_after, LeafLine, stays_open, is_last, line_of_leaf, LineOpens, begins_nothing, begins_leaf, begins_quote, begins_item, begin_of}
 use Rattle.cm_block.specs.Machine.{ClosedPart, closed_blank, closed_leaf, closed_quote, closed_item, put, put_all, Open, in_leaf, in_quote, in_item, has_open_text, Change, change, parts_of_leaves, closing, leaf_change, begin_by, begin_within, begin, after_closing, leaf_step, step, Machine, new_machine, take_line, take_lines, close, parts_in_one_pass}
 use Rattle.cm_block.specs.Level.{Level, empty_level}
 use Rattle.cm_block.specs.Stack.{Owned, Stack, empty_stack, push_line, push_lines}
@@ -96,12 +96,12 @@ blank-zeros : (n : ℕ) → closed_parts_depths (replicate n closed_blank) ≡ z
 blank-zeros zero = refl
 blank-zeros (suc n) = ap (λ ds. 0 ∷ ds) (blank-zeros n)
 
-closing-zeros : (x : OpenLeaf) → closed_parts_depths (closing (in_leaf x)) ≡ zeros (leaf_total (closed_leaves x) + blank_lines_behind x)
+closing-zeros : (x : OpenLeaf) → closed_parts_depths (closing (in_leaf x)) ≡ zeros (leaf_total (closed_leaves x) + blank_lines_after x)
 unfolding closing
 closing-zeros x =
-    depths-append (parts_of_leaves (closed_leaves x)) (replicate (blank_lines_behind x) closed_blank)
-    ∙ ap₂ (λ ds es. ds ++ es) (leaf-zeros (closed_leaves x)) (blank-zeros (blank_lines_behind x))
-    ∙ replicate-append-replicate (leaf_total (closed_leaves x)) (blank_lines_behind x) 0
+    depths-append (parts_of_leaves (closed_leaves x)) (replicate (blank_lines_after x) closed_blank)
+    ∙ ap₂ (λ ds es. ds ++ es) (leaf-zeros (closed_leaves x)) (blank-zeros (blank_lines_after x))
+    ∙ replicate-append-replicate (leaf_total (closed_leaves x)) (blank_lines_after x) 0
 
 -- a container is around its lines
 
@@ -266,32 +266,32 @@ held-nesting (in_quote ps o) = ap suc (held-nesting o)
 held-nesting (in_item kind column bare ps o) = ap suc (held-nesting o)
 
 module _ (rules : Rules) where
-  behind : List LineView → Machine
-  behind done = take_lines rules new_machine done
+  beyond : List LineView → Machine
+  beyond done = take_lines rules new_machine done
 
-  behind-more : (done : List LineView) (line : LineView) → behind (done ++ line ∷ []) ≡ take_line rules (behind done) line
-  unfolding behind take_lines
-  behind-more done line = take_lines-append rules new_machine done (line ∷ [])
+  beyond-more : (done : List LineView) (line : LineView) → beyond (done ++ line ∷ []) ≡ take_line rules (beyond done) line
+  unfolding beyond take_lines
+  beyond-more done line = take_lines-append rules new_machine done (line ∷ [])
 
-  so-far : (done : List LineView) → depths_of (parts_of rules done) ≡ depths_so_far (behind done)
-  unfolding behind parts_in_one_pass close
-  so-far done = ap depths_of (sym (one_pass rules done)) ∙ depths-law ((behind done).closed ++ closing (behind done).now)
+  so-far : (done : List LineView) → depths_of (parts_of rules done) ≡ depths_so_far (beyond done)
+  unfolding beyond parts_in_one_pass close
+  so-far done = ap depths_of (sym (one_pass rules done)) ∙ depths-law ((beyond done).closed ++ closing (beyond done).now)
 
-  length-so-far : (done : List LineView) → AreLines done → length (depths_so_far (behind done)) ≡ length done
+  length-so-far : (done : List LineView) → AreLines done → length (depths_so_far (beyond done)) ≡ length done
   unfolding owners_of line_owners
   length-so-far done h = ap length (sym (so-far done)) ∙ one_depth (parts_of rules done) ∙ sym (one_owner_a_line 0 (parts_of rules done)) ∙ one_owner rules done h
 
   next-depth : (done : List LineView) (line : LineView) → AreLines done → is_line line.text ≡ true
-      → depths_so_far (take_line rules (behind done) line) ≡ depths_so_far (behind done) ++ nesting (take_line rules (behind done) line).now ∷ []
+      → depths_so_far (take_line rules (beyond done) line) ≡ depths_so_far (beyond done) ++ nesting (take_line rules (beyond done) line).now ∷ []
   unfolding take_line
   next-depth done line h e =
       became
       ∙ one-more (ds ++ g.common) g.old_count g.new_count (nesting c.now) (length done) (ap length (sym was) ∙ length-so-far done h)
-      (ap length (sym became) ∙ ap (λ m. length (depths_so_far m)) (sym (behind-more done line)) ∙ length-so-far (done ++ line ∷ []) (are-push done line h e) ∙ count)
+      (ap length (sym became) ∙ ap (λ m. length (depths_so_far m)) (sym (beyond-more done line)) ∙ length-so-far (done ++ line ∷ []) (are-push done line h e) ∙ count)
       ∙ ap (λ ds. ds ++ nesting c.now ∷ []) (sym was)
     where
       m : Machine
-      m = behind done
+      m = beyond done
 
       c : Change
       c = step rules m.now line
@@ -317,31 +317,31 @@ module _ (rules : Rules) where
   unfolding take_line
   fit-next m line h = (fits-step rules m.now line m.closed h).0
 
-  all-depths : (done rest : List LineView) (s : Owned) (v : Level) (st : Stack) → AreLines done → AreLines rest → Fit (behind done).closed (behind done).now → Follows false s v (behind done) st
-      → depths_so_far (take_lines rules (behind done) rest) ≡ depths_so_far (behind done) ++ line_depths rules st rest
+  all-depths : (done rest : List LineView) (s : Owned) (v : Level) (st : Stack) → AreLines done → AreLines rest → Fit (beyond done).closed (beyond done).now → Follows false s v (beyond done) st
+      → depths_so_far (take_lines rules (beyond done) rest) ≡ depths_so_far (beyond done) ++ line_depths rules st rest
   unfolding take_lines line_depths push_line
-  all-depths done [] s v st h k fit f = sym (append-nil (depths_so_far (behind done)))
+  all-depths done [] s v st h k fit f = sym (append-nil (depths_so_far (beyond done)))
   all-depths done (line ∷ rest) s v st h k fit f =
-      ap (λ m. depths_so_far (take_lines rules m rest)) (sym (behind-more done line))
+      ap (λ m. depths_so_far (take_lines rules m rest)) (sym (beyond-more done line))
       ∙ all-depths (done ++ line ∷ []) rest s v (push_line rules st line) (are-push done line h (are-first line rest k)) (are-rest line rest k)
-      (subst (λ (m : Machine). Fit m.closed m.now) (sym (behind-more done line)) fits)
-      (subst (λ m. Follows false s v m (push_line rules st line)) (sym (behind-more done line)) follows)
-      ∙ ap (λ m. depths_so_far m ++ line_depths rules (push_line rules st line) rest) (behind-more done line)
+      (subst (λ (m : Machine). Fit m.closed m.now) (sym (beyond-more done line)) fits)
+      (subst (λ m. Follows false s v m (push_line rules st line)) (sym (beyond-more done line)) follows)
+      ∙ ap (λ m. depths_so_far m ++ line_depths rules (push_line rules st line) rest) (beyond-more done line)
       ∙ ap (λ ds. ds ++ line_depths rules (push_line rules st line) rest) (next-depth done line h (are-first line rest k))
-      ∙ append_assoc (depths_so_far (behind done)) (nesting next.now ∷ []) (line_depths rules (push_line rules st line) rest)
-      ∙ ap (λ d. depths_so_far (behind done) ++ d ∷ line_depths rules (push_line rules st line) rest) (sym (held-nesting next.now) ∙ ap nesting (sym follows.now))
+      ∙ append_assoc (depths_so_far (beyond done)) (nesting next.now ∷ []) (line_depths rules (push_line rules st line) rest)
+      ∙ ap (λ d. depths_so_far (beyond done) ++ d ∷ line_depths rules (push_line rules st line) rest) (sym (held-nesting next.now) ∙ ap nesting (sym follows.now))
     where
       next : Machine
-      next = take_line rules (behind done) line
+      next = take_line rules (beyond done) line
 
       follows : Follows false s v next (push_line rules st line)
-      follows = follows-line rules false s v (behind done) st line fit f
+      follows = follows-line rules false s v (beyond done) st line fit f
 
       fits : Fit next.closed next.now
-      fits = fit-next (behind done) line fit
+      fits = fit-next (beyond done) line fit
 
 pub depths_of_lines : DepthsOfLines
-unfolding behind take_lines closing closed_leaves
+unfolding beyond take_lines closing closed_leaves
 depths_of_lines rules lines h = sym (all-depths rules [] lines empty_stack.owned empty_level empty_stack refl h fit-new (follows-new rules)) ∙ sym (so-far rules lines)
 
 pub too_deep_at_once : TooDeepAtOnce

@@ -45,8 +45,8 @@ feeds_with_part true old part new line e = ap line_feeds e ∙ feeds_append old 
 feeds_with_part false old part new line e = ap line_feeds e
 
 -- nor does a line after a text bring more
-pub feeds_behind : (text : List ℕ) (n : ℕ) (rest : List ℕ) → is_line rest ≡ true → line_feeds (text ++ (replicate n 32 ++ rest)) ≡ line_feeds text
-feeds_behind text n rest e = omega (arith, feeds_append text (replicate n 32 ++ rest), feeds_of_view n rest e)
+pub feeds_after : (text : List ℕ) (n : ℕ) (rest : List ℕ) → is_line rest ≡ true → line_feeds (text ++ (replicate n 32 ++ rest)) ≡ line_feeds text
+feeds_after text n rest e = omega (arith, feeds_append text (replicate n 32 ++ rest), feeds_of_view n rest e)
 
 pub feeds_of_first : (text before : List ℕ) (n : ℕ) (rest : List ℕ) → before ≡ [] → text ≡ before ++ (replicate n 32 ++ rest) → is_line rest ≡ true → line_feeds text ≡ 0
 feeds_of_first text before n rest none e line = ap line_feeds (e ∙ ap (λ xs. xs ++ (replicate n 32 ++ rest)) none) ∙ feeds_of_view n rest line

@@ -11,7 +11,7 @@ use Rattle.cm_block.specs.Stack.{item_of}
 use Rattle.cm_block.specs.Frames.{Container, a_quote, an_item, Frame}
 use Rattle.cm_block.specs.steps.FrameSteps.{matching, quoted_by, close_container, is_continued_by}
 use Rattle.cm_block.specs.steps.LevelSteps.{has_list_of, is_list_of, goes_on}
-use Rattle.cm_block.specs.steps.FrontViews.{level_behind, frames_behind, innermost}
+use Rattle.cm_block.specs.steps.FrontViews.{level_after, frames_after, innermost}
 use Rattle.cm_block.proofs.lemmas.FrameStartLemmas.{frame}
 
 -- What is closed before a list that opens may be closed already.
@@ -61,40 +61,40 @@ module _ (front : List Block) where
   abbrev with_blocks : Level → List Block → Level
   with_blocks level blocks = record { blocks = blocks; open_list = level.open_list; has_block = level.has_block; ends_blank = level.ends_blank; separated = level.separated }
 
-  pub closed-behind : (blocks : List Block) (list : Option OpenList) → with_list (front ++ blocks) list ≡ front ++ with_list blocks list
-  closed-behind blocks None = refl
-  closed-behind blocks (Some list) = append_assoc front blocks _
+  pub closed-beyond : (blocks : List Block) (list : Option OpenList) → with_list (front ++ blocks) list ≡ front ++ with_list blocks list
+  closed-beyond blocks None = refl
+  closed-beyond blocks (Some list) = append_assoc front blocks _
 
-  pub opens-behind : (level : Level) → block_opens (level_behind front level) ≡ level_behind front (block_opens level)
-  opens-behind level = ap (with_blocks (block_opens level)) (closed-behind level.blocks level.open_list)
+  pub opens-beyond : (level : Level) → block_opens (level_after front level) ≡ level_after front (block_opens level)
+  opens-beyond level = ap (with_blocks (block_opens level)) (closed-beyond level.blocks level.open_list)
 
-  pub closes-behind : (block : Block) (level : Level) → block_closes (level_behind front level) block ≡ level_behind front (block_closes level block)
-  closes-behind block level = ap (with_blocks (block_closes level block)) (append_assoc front level.blocks (block ∷ []))
+  pub closes-beyond : (block : Block) (level : Level) → block_closes (level_after front level) block ≡ level_after front (block_closes level block)
+  closes-beyond block level = ap (with_blocks (block_closes level block)) (append_assoc front level.blocks (block ∷ []))
 
-  list-opens-behind : (kind : ListKind) (level : Level) → list_opens (level_behind front level) kind ≡ level_behind front (list_opens level kind)
-  list-opens-behind kind level = ap (with_blocks (list_opens level kind)) (closed-behind level.blocks level.open_list)
+  list-opens-beyond : (kind : ListKind) (level : Level) → list_opens (level_after front level) kind ≡ level_after front (list_opens level kind)
+  list-opens-beyond kind level = ap (with_blocks (list_opens level kind)) (closed-beyond level.blocks level.open_list)
 
-  item-opens-in : (kind : ListKind) (level : Level) (list : Option OpenList) → item_opens_in (level_behind front level) list kind ≡ level_behind front (item_opens_in level list kind)
-  item-opens-in kind level None = list-opens-behind kind level
+  item-opens-in : (kind : ListKind) (level : Level) (list : Option OpenList) → item_opens_in (level_after front level) list kind ≡ level_after front (item_opens_in level list kind)
+  item-opens-in kind level None = list-opens-beyond kind level
   item-opens-in kind level (Some list) = by-kind (is_same_kind list.kind kind)
     where
-      by-kind : (same : Bool) → elim same [ true ↦ list_goes_on (level_behind front level) list | false ↦ list_opens (level_behind front level) kind ]
-          ≡ level_behind front (elim same [ true ↦ list_goes_on level list | false ↦ list_opens level kind ])
+      by-kind : (same : Bool) → elim same [ true ↦ list_goes_on (level_after front level) list | false ↦ list_opens (level_after front level) kind ]
+          ≡ level_after front (elim same [ true ↦ list_goes_on level list | false ↦ list_opens level kind ])
       by-kind true = refl
-      by-kind false = list-opens-behind kind level
+      by-kind false = list-opens-beyond kind level
 
-  pub item-opens-behind : (kind : ListKind) (level : Level) → item_opens (level_behind front level) kind ≡ level_behind front (item_opens level kind)
-  item-opens-behind kind level = item-opens-in kind level level.open_list
+  pub item-opens-beyond : (kind : ListKind) (level : Level) → item_opens (level_after front level) kind ≡ level_after front (item_opens level kind)
+  item-opens-beyond kind level = item-opens-in kind level level.open_list
 
   -- ---- the innermost level
 
-  pub inner-does : (does : Level → Level) → ((level : Level) → does (level_behind front level) ≡ level_behind front (does level)) → (frames : List Frame) (level : Level)
+  pub inner-does : (does : Level → Level) → ((level : Level) → does (level_after front level) ≡ level_after front (does level)) → (frames : List Frame) (level : Level)
       → innermost front frames (does level) ≡ does (innermost front frames level)
   inner-does does same [] level = sym (same level)
   inner-does does same (f ∷ fs) level = refl
 
   pub inner-closes : (block : Block) (frames : List Frame) (level : Level) → innermost front frames (block_closes level block) ≡ block_closes (innermost front frames level) block
-  inner-closes block frames level = inner-does (λ l. block_closes l block) (closes-behind block) frames level
+  inner-closes block frames level = inner-does (λ l. block_closes l block) (closes-beyond block) frames level
 
   pub inner-item-closes : (item : Item) (frames : List Frame) (level : Level) → innermost front frames (item_closes level item) ≡ item_closes (innermost front frames level) item
   inner-item-closes item [] level = refl
@@ -106,7 +106,7 @@ module _ (front : List Block) where
 
   -- a container is opened
   pub frames-push : (frames : List Frame) (level : Level) (container : Container)
-      → frames_behind front (frames ++ frame level container ∷ []) ≡ frames_behind front frames ++ frame (innermost front frames level) container ∷ []
+      → frames_after front (frames ++ frame level container ∷ []) ≡ frames_after front frames ++ frame (innermost front frames level) container ∷ []
   frames-push [] level container = refl
   frames-push (f ∷ fs) level container = refl
 
@@ -115,32 +115,32 @@ module _ (front : List Block) where
   inner-pushed (g ∷ gs) f level = refl
 
   -- a container is closed
-  pub last-taken : (frames outer : List Frame) (f last : Frame) → frames_behind front (frames ++ f ∷ []) ≡ outer ++ last ∷ []
-      → (frames_behind front frames ≡ outer) × ((innermost front frames f.level ≡ last.level) × (f.container ≡ last.container))
+  pub last-taken : (frames outer : List Frame) (f last : Frame) → frames_after front (frames ++ f ∷ []) ≡ outer ++ last ∷ []
+      → (frames_after front frames ≡ outer) × ((innermost front frames f.level ≡ last.level) × (f.container ≡ last.container))
   last-taken [] outer f last all =
-      let same = same_from_push [] outer (frame (level_behind front f.level) f.container) last all in
+      let same = same_from_push [] outer (frame (level_after front f.level) f.container) last all in
       (same.0, (ap (λ (x : Frame). x.level) same.1, ap (λ (x : Frame). x.container) same.1))
   last-taken (g ∷ gs) outer f last all =
-      let same = same_from_push (frames_behind front (g ∷ gs)) outer f last all in
+      let same = same_from_push (frames_after front (g ∷ gs)) outer f last all in
       (same.0, (ap (λ (x : Frame). x.level) same.1, ap (λ (x : Frame). x.container) same.1))
 
   -- no container is open
-  pub none-inside : (frames : List Frame) (level : Level) → frames_behind front frames ≡ [] → innermost front frames level ≡ level_behind front level
+  pub none-inside : (frames : List Frame) (level : Level) → frames_after front frames ≡ [] → innermost front frames level ≡ level_after front level
   none-inside [] level none = refl
   none-inside (f ∷ fs) level none = absurd (omega (arith, ap length none))
 
   -- ---- what reads the containers alone
 
-  pub matching-behind : (rules : Rules) (bare open_text : Bool) (frames : List Frame) (line : LineView) → matching rules bare open_text (frames_behind front frames) line ≡ matching rules bare open_text frames line
+  pub matching-beyond : (rules : Rules) (bare open_text : Bool) (frames : List Frame) (line : LineView) → matching rules bare open_text (frames_after front frames) line ≡ matching rules bare open_text frames line
   unfolding matching
-  matching-behind rules bare open_text [] line = refl
-  matching-behind rules bare open_text (f ∷ fs) line = refl
+  matching-beyond rules bare open_text [] line = refl
+  matching-beyond rules bare open_text (f ∷ fs) line = refl
 
-  pub quoted-behind : (quoted : Bool) (frames : List Frame) → quoted_by quoted (frames_behind front frames) ≡ quoted_by quoted frames
+  pub quoted-beyond : (quoted : Bool) (frames : List Frame) → quoted_by quoted (frames_after front frames) ≡ quoted_by quoted frames
   unfolding quoted_by
-  quoted-behind quoted [] = refl
-  quoted-behind quoted (f ∷ fs) = refl
+  quoted-beyond quoted [] = refl
+  quoted-beyond quoted (f ∷ fs) = refl
 
-  pub length-behind : (frames : List Frame) → length (frames_behind front frames) ≡ length frames
-  length-behind [] = refl
-  length-behind (f ∷ fs) = refl
+  pub length-beyond : (frames : List Frame) → length (frames_after front frames) ≡ length frames
+  length-beyond [] = refl
+  length-beyond (f ∷ fs) = refl

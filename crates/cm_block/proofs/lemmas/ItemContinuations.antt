@@ -23,8 +23,8 @@ module _ (column spaces from : ℕ) (rest : List ℕ) (lazy : Bool) where
       grind (arith, h)
 
   -- nothing is after them
-  pub nothing_behind : rest ≡ [] → (nat_le column (indent_of line) || is_blank line) ≡ true
-  nothing_behind none =
+  pub nothing_after : rest ≡ [] → (nat_le column (indent_of line) || is_blank line) ≡ true
+  nothing_after none =
       let blank : is_blank line ≡ true = blank_spaces spaces rest ∙ ap is_blank_text none in
       grind (arith, blank)
 
@@ -37,8 +37,8 @@ module _ (column spaces from : ℕ) (rest : List ℕ) (lazy : Bool) where
       )
 
   -- something else is after them, and they don't reach it
-  pub plain_behind : begins_plain rest ≡ true → spaces < column → (nat_le column (indent_of line) || is_blank line) ≡ false
-  plain_behind plain near =
+  pub plain_after : begins_plain rest ≡ true → spaces < column → (nat_le column (indent_of line) || is_blank line) ≡ false
+  plain_after plain near =
       let e = plain_indent spaces from rest plain in
       let h : nat_le column (indent_of line) ≡ false = grind (arith, nat_tests, e, near) in
       let blank = plain_some spaces rest plain in

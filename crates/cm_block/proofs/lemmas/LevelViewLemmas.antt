@@ -67,9 +67,9 @@ pub frames-before : (raw : Raw) (xs ys : List code_frame.Frame) → AreFramesPla
 frames-before raw [] ys placed = tt
 frames-before raw (frame ∷ xs) ys placed = (placed.0, frames-before raw xs ys placed.1)
 
-pub frames-behind : (raw : Raw) (xs ys : List code_frame.Frame) → AreFramesPlaced raw (xs ++ ys) → AreFramesPlaced raw ys
-frames-behind raw [] ys placed = placed
-frames-behind raw (frame ∷ xs) ys placed = frames-behind raw xs ys placed.1
+pub frames-beyond : (raw : Raw) (xs ys : List code_frame.Frame) → AreFramesPlaced raw (xs ++ ys) → AreFramesPlaced raw ys
+frames-beyond raw [] ys placed = placed
+frames-beyond raw (frame ∷ xs) ys placed = frames-beyond raw xs ys placed.1
 
 -- one more block, and one more item
 

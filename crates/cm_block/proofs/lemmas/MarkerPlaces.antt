@@ -3,16 +3,18 @@ use Rattle.std.proofs.Common.{◌≡◌, ℕ, zero, suc, ◌+◌, ◌<◌, ◌�
 use Rattle.std.specs.Prelude.{nat_le}
 use Rattle.std.specs.Str.{IsCharBoundary}
 use Rattle.std.specs.List.{slice_index}
+use Rattle.std.specs.Char.{is_ascii_digit}
 use Rattle.cm_text.specs.Rules.{Rules}
 use Rattle.cm_text.specs.Lines.{LineView}
 use Rattle.cm_text.specs.LineText.{tabs}
 use Rattle.cm_text.specs.Indentation.{indent_of}
-use Rattle.cm_scan.specs.Words.{begins_with, is_digit, front_of, skip, is_at_gap, given, ◌<|>◌}
+use Rattle.cm_scan.specs.Words.{begins_with, front_of, skip, is_at_gap, given, ◌<|>◌}
 use Rattle.cm_scan.specs.blocks.Lines.{content_of}
-use Rattle.cm_scan.specs.blocks.LineForms.{most_digits, Heading, Fence, ItemMarker, is_thematic_break, atx_heading, opening_fence, bullet_kind, ordered_kind, marker_at_gap, bullet_marker, decimal_value, is_number, marker_behind, ordered_marker, item_marker}
+use Rattle.cm_scan.specs.blocks.LineForms.{most_digits, Heading, Fence, ItemMarker, is_thematic_break, atx_heading, opening_fence, bullet_kind, ordered_kind, marker_at_gap, bullet_marker, decimal_value, is_number, marker_after, ordered_marker, item_marker}
 use Rattle.cm_tree.specs.declared.tree.ListKind.{ListKind}
 use Rattle.cm_scan.specs.blocks.HtmlBlocks.{HtmlKind, html_start}
-use Rattle.cm_scan.specs.blocks.Starts.{Start, QuoteMarker, ItemStart, start_of_content, start_by, start_of}
+use Rattle.cm_scan.specs.blocks.Starts.{Start, QuoteMarker, ItemStart, start_of_content, start_of}
+use Rattle.cm_scan.specs.steps.LineSteps.{start_by}
 use Rattle.cm_block.specs.steps.ContinuationViews.{begins_quote}
 use Rattle.cm_block.proofs.lemmas.StartLemmas.{first, starts_lazy, starts_code, starts_content}
 use Rattle.std.proofs.lemmas.Bool.Decides.{nat_tests}
@@ -24,12 +26,12 @@ pub record Marked (text : List ℕ) (marker : ItemMarker) : Type 0 where
   pub plain : tabs (take (suc marker.digits) text) ≡ 0
   pub gap : is_at_gap (drop (suc marker.digits) text) ≡ true
 
-marker-is : (kind : Option ListKind) (digits : ℕ) (behind : List ℕ) (m : ItemMarker) → marker_at_gap kind digits behind ≡ Some m
-    → (m.digits ≡ digits) × (is_at_gap behind ≡ true)
-marker-is None digits behind m e = absurd (cc e)
-marker-is (Some kind) digits behind m e = go (is_at_gap behind) refl e
+marker-is : (kind : Option ListKind) (digits : ℕ) (beyond : List ℕ) (m : ItemMarker) → marker_at_gap kind digits beyond ≡ Some m
+    → (m.digits ≡ digits) × (is_at_gap beyond ≡ true)
+marker-is None digits beyond m e = absurd (cc e)
+marker-is (Some kind) digits beyond m e = go (is_at_gap beyond) refl e
   where
-    go : (b : Bool) → is_at_gap behind ≡ b → given b (record { kind = kind; digits = digits }) ≡ Some m → (m.digits ≡ digits) × (is_at_gap behind ≡ true)
+    go : (b : Bool) → is_at_gap beyond ≡ b → given b (record { kind = kind; digits = digits }) ≡ Some m → (m.digits ≡ digits) × (is_at_gap beyond ≡ true)
     go true g e = (ap (λ (o : Option ItemMarker). elim o [ Some n ↦ n.digits | None ↦ digits ]) (sym e), g)
     go false g e = absurd (cc e)
 
@@ -47,51 +49,51 @@ front-skip test (b ∷ bs) = let h : front_of test bs ++ skip test bs ≡ bs = f
     go true h = ap (λ t. b ∷ t) h
     go false h = refl
 
-digits-plain : (text rest : List ℕ) → tabs (front_of is_digit text ++ rest) ≡ tabs rest
+digits-plain : (text rest : List ℕ) → tabs (front_of is_ascii_digit text ++ rest) ≡ tabs rest
 unfolding front_of
 digits-plain [] rest = refl
-digits-plain (b ∷ bs) rest = let h : tabs (front_of is_digit bs ++ rest) ≡ tabs rest = digits-plain bs rest in grind (arith, h)
+digits-plain (b ∷ bs) rest = let h : tabs (front_of is_ascii_digit bs ++ rest) ≡ tabs rest = digits-plain bs rest in grind (arith, h)
 
-take-behind : (ds cs : List ℕ) (c : ℕ) → take (suc (length ds)) (ds ++ c ∷ cs) ≡ ds ++ c ∷ []
-take-behind [] cs c = refl
-take-behind (d ∷ ds) cs c = ap (λ t. d ∷ t) (take-behind ds cs c)
+take-beyond : (ds cs : List ℕ) (c : ℕ) → take (suc (length ds)) (ds ++ c ∷ cs) ≡ ds ++ c ∷ []
+take-beyond [] cs c = refl
+take-beyond (d ∷ ds) cs c = ap (λ t. d ∷ t) (take-beyond ds cs c)
 
-drop-behind : (ds cs : List ℕ) (c : ℕ) → drop (suc (length ds)) (ds ++ c ∷ cs) ≡ cs
-drop-behind [] cs c = refl
-drop-behind (d ∷ ds) cs c = drop-behind ds cs c
+drop-beyond : (ds cs : List ℕ) (c : ℕ) → drop (suc (length ds)) (ds ++ c ∷ cs) ≡ cs
+drop-beyond [] cs c = refl
+drop-beyond (d ∷ ds) cs c = drop-beyond ds cs c
 
-length-behind : (ds cs : List ℕ) (c : ℕ) → suc (length ds) ≤ length (ds ++ c ∷ cs)
-length-behind [] cs c = omega arith
-length-behind (d ∷ ds) cs c = omega (arith, length-behind ds cs c)
+length-beyond : (ds cs : List ℕ) (c : ℕ) → suc (length ds) ≤ length (ds ++ c ∷ cs)
+length-beyond [] cs c = omega arith
+length-beyond (d ∷ ds) cs c = omega (arith, length-beyond ds cs c)
 
 -- a number of bytes, and a byte after them
 of-width : (ds cs : List ℕ) (c : ℕ) (m : ItemMarker) → m.digits ≡ length ds → length ds ≤ most_digits → tabs (ds ++ c ∷ []) ≡ 0 → is_at_gap cs ≡ true → Marked (ds ++ c ∷ cs) m
 of-width ds cs c m width few plain gap = record {
   few = omega (arith, width, few);
-  within = omega (arith, width, length-behind ds cs c);
-  plain = subst (λ n. tabs (take (suc n) (ds ++ c ∷ cs)) ≡ 0) (sym width) (ap tabs (take-behind ds cs c) ∙ plain);
-  gap = subst (λ n. is_at_gap (drop (suc n) (ds ++ c ∷ cs)) ≡ true) (sym width) (ap is_at_gap (drop-behind ds cs c) ∙ gap);
+  within = omega (arith, width, length-beyond ds cs c);
+  plain = subst (λ n. tabs (take (suc n) (ds ++ c ∷ cs)) ≡ 0) (sym width) (ap tabs (take-beyond ds cs c) ∙ plain);
+  gap = subst (λ n. is_at_gap (drop (suc n) (ds ++ c ∷ cs)) ≡ true) (sym width) (ap is_at_gap (drop-beyond ds cs c) ∙ gap);
 }
 
 one-plain : (b : ℕ) → (b == 9) ≡ false → tabs (b ∷ []) ≡ 0
 one-plain b h = grind (arith, h)
 
-kind-plain : (n c digits : ℕ) (behind : List ℕ) (m : ItemMarker) → marker_at_gap (ordered_kind n c) digits behind ≡ Some m → (c == 9) ≡ false
-kind-plain n c digits behind m e = grind (arith, e)
+kind-plain : (n c digits : ℕ) (beyond : List ℕ) (m : ItemMarker) → marker_at_gap (ordered_kind n c) digits beyond ≡ Some m → (c == 9) ≡ false
+kind-plain n c digits beyond m e = grind (arith, e)
 
 number-few : (ds : List ℕ) → is_number ds ≡ true → length ds ≤ most_digits
 number-few ds e = grind (arith, e)
 
-ordered-marked : (text rest : List ℕ) (m : ItemMarker) → skip is_digit text ≡ rest → marker_behind (front_of is_digit text) rest ≡ Some m → Marked text m
-unfolding marker_behind
+ordered-marked : (text rest : List ℕ) (m : ItemMarker) → skip is_ascii_digit text ≡ rest → marker_after (front_of is_ascii_digit text) rest ≡ Some m → Marked text m
+unfolding marker_after
 ordered-marked text [] m is e = absurd (cc e)
 ordered-marked text (c ∷ cs) m is e = go (is_number ds) refl e
   where
     ds : List ℕ
-    ds = front_of is_digit text
+    ds = front_of is_ascii_digit text
 
     whole : ds ++ c ∷ cs ≡ text
-    whole = ap (λ r. ds ++ r) (sym is) ∙ front-skip is_digit text
+    whole = ap (λ r. ds ++ r) (sym is) ∙ front-skip is_ascii_digit text
 
     go : (b : Bool) → is_number ds ≡ b → (elim b as (λ _. Option ItemMarker) [ true ↦ marker_at_gap (ordered_kind (decimal_value ds) c) (length ds) cs | false ↦ None ]) ≡ Some m → Marked text m
     go false n e = absurd (cc e)
@@ -102,14 +104,14 @@ ordered-marked text (c ∷ cs) m is e = go (is_number ds) refl e
 
 pub marked : (text : List ℕ) (m : ItemMarker) → item_marker text ≡ Some m → Marked text m
 unfolding item_marker bullet_marker ordered_marker
-marked [] m e = ordered-marked [] (skip is_digit []) m refl e
+marked [] m e = ordered-marked [] (skip is_ascii_digit []) m refl e
 marked (b ∷ bs) m e = go (bullet_marker (b ∷ bs)) refl e
   where
     go : (o : Option ItemMarker) → bullet_marker (b ∷ bs) ≡ o → (o <|> ordered_marker (b ∷ bs)) ≡ Some m → Marked (b ∷ bs) m
     go (Some n) is e =
         let h = marker-is (bullet_kind b) 0 bs m (is ∙ e) in
         of-width [] bs b m h.0 (omega arith) (one-plain b (bullet-plain b bs m (is ∙ e))) h.1
-    go None is e = ordered-marked (b ∷ bs) (skip is_digit (b ∷ bs)) m refl e
+    go None is e = ordered-marked (b ∷ bs) (skip is_ascii_digit (b ∷ bs)) m refl e
 
 -- a line that starts an item has its marker after at most 3 columns
 

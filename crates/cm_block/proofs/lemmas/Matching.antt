@@ -5,7 +5,7 @@ use Rattle.cm_text.specs.Lines.{LineView}
 use Rattle.cm_text.specs.Indentation.{indent_of, strip_columns}
 use Rattle.cm_scan.specs.blocks.Lines.{is_blank, past, as_lazy}
 use Rattle.cm_scan.specs.laws.PartLaws.{goes_inward}
-use Rattle.cm_scan.specs.blocks.Starts.{Start, IndentedCode, QuoteMarker, AtxHeading, OpeningFence, HtmlStart, BreakLine, ItemStart, TextLine, start_of, Continuation, Stays, StaysIfOpen, Leaves, may_be_lazy, continuation_if_lazy, behind_quote_marker, quote_continuation, continuation_in_quote, item_continuation, continuation_in_item}
+use Rattle.cm_scan.specs.blocks.Starts.{Start, IndentedCode, QuoteMarker, AtxHeading, OpeningFence, HtmlStart, BreakLine, ItemStart, TextLine, start_of, Continuation, Stays, StaysIfOpen, Leaves, may_be_lazy, continuation_if_lazy, after_quote_marker, quote_continuation, continuation_in_quote, item_continuation, continuation_in_item}
 use Rattle.std.specs.Prelude.{nat_le}
 use Rattle.std.specs.List.{slice_index_or}
 use Rattle.cm_block.specs.declared.stack.Frame as code
@@ -18,7 +18,7 @@ use Rattle.cm_block.proofs.lemmas.Lazy.{starts_text, continuation-quote, continu
 use Rattle.std.proofs.lemmas.Bool.{eqb-true}
 use Rattle.std.proofs.lemmas.List.{length_push, length-take-le, take_all, drop_all}
 use Rattle.cm_block.specs.Frames.{Container, a_quote, an_item, Frame, Row, is_last}
-use Rattle.cm_block.specs.steps.FrameSteps.{continuation_in, inward, matching, behind, LeavesNext, quoted_in, quoted_by, close_container, close_frames, closed_to}
+use Rattle.cm_block.specs.steps.FrameSteps.{continuation_in, inward, matching, beyond, LeavesNext, quoted_in, quoted_by, close_container, close_frames, closed_to}
 
 -- closing from the inside out
 pub close_last : (fs : List Frame) (f : Frame) (level : Level) → close_frames (fs ++ f ∷ []) level ≡ close_frames fs (close_container f.container f.level level)
@@ -63,15 +63,15 @@ module _ (rules : Rules) (bare open_text : Bool) (i : ℕ) (f : Frame) (rest : L
   -- the line stays in the next container
   pub match_next : (from : List Frame) (is_bare : Bool) (inner : LineView) → from ≡ f ∷ rest → is_bare ≡ (bare && is_last rest)
       → Some inner ≡ inward rules f.container is_bare open_text line
-      → behind i (matching rules bare open_text from line) ≡ behind (suc i) (matching rules bare open_text rest inner)
+      → beyond i (matching rules bare open_text from line) ≡ beyond (suc i) (matching rules bare open_text rest inner)
   unfolding matching
   match_next from is_bare inner at is stays =
-      ap (λ fs. behind i (matching rules bare open_text fs line)) at
+      ap (λ fs. beyond i (matching rules bare open_text fs line)) at
       ∙ ap by_continuation (sym (stays ∙ ap (λ b. inward rules f.container b open_text line) is))
       ∙ ap (λ n. (n, (matching rules bare open_text rest inner).1)) (sum (matching rules bare open_text rest inner).0)
     where
       by_continuation : Option LineView → ℕ × LineView
-      by_continuation o = behind i (elim o [ Some inner ↦ let inside = matching rules bare open_text rest inner in (suc inside.0, inside.1) | None ↦ (0, line) ])
+      by_continuation o = beyond i (elim o [ Some inner ↦ let inside = matching rules bare open_text rest inner in (suc inside.0, inside.1) | None ↦ (0, line) ])
 
       sum : (n : ℕ) → i + suc n ≡ suc i + n
       sum n = omega arith
@@ -79,23 +79,23 @@ module _ (rules : Rules) (bare open_text : Bool) (i : ℕ) (f : Frame) (rest : L
   -- or not
   pub match_stop : (from : List Frame) (is_bare : Bool) → from ≡ f ∷ rest → is_bare ≡ (bare && is_last rest)
       → None ≡ inward rules f.container is_bare open_text line
-      → behind i (matching rules bare open_text from line) ≡ (i, line)
+      → beyond i (matching rules bare open_text from line) ≡ (i, line)
   unfolding matching
   match_stop from is_bare at is leaves =
-      ap (λ fs. behind i (matching rules bare open_text fs line)) at
+      ap (λ fs. beyond i (matching rules bare open_text fs line)) at
       ∙ ap by_continuation (sym (leaves ∙ ap (λ b. inward rules f.container b open_text line) is))
       ∙ ap (λ n. (n, line)) none
     where
       by_continuation : Option LineView → ℕ × LineView
-      by_continuation o = behind i (elim o [ Some inner ↦ let inside = matching rules bare open_text rest inner in (suc inside.0, inside.1) | None ↦ (0, line) ])
+      by_continuation o = beyond i (elim o [ Some inner ↦ let inside = matching rules bare open_text rest inner in (suc inside.0, inside.1) | None ↦ (0, line) ])
 
       none : i + 0 ≡ i
       none = omega arith
 
 pub match_end : (rules : Rules) (bare open_text : Bool) (i n : ℕ) (from : List Frame) (line : LineView) → from ≡ [] → i ≡ n
-    → behind i (matching rules bare open_text from line) ≡ (n, line)
+    → beyond i (matching rules bare open_text from line) ≡ (n, line)
 unfolding matching
-match_end rules bare open_text i n from line at is = ap (λ fs. behind i (matching rules bare open_text fs line)) at ∙ ap (λ k. (k, line)) sum
+match_end rules bare open_text i n from line at is = ap (λ fs. beyond i (matching rules bare open_text fs line)) at ∙ ap (λ k. (k, line)) sum
   where
     sum : i + 0 ≡ n
     sum = omega (arith, is)
@@ -117,8 +117,8 @@ module _ (raw : Raw) (frames : List code.Frame) (i : ℕ) (other : code.Frame) (
   )
 
   pub goes_into_item : (rules : Rules) (open_text : Bool) (inner : LineView) → continuation_in_item rules column false line ≡ Stays inner
-      → behind i (matching rules false open_text (drop i (frames_in raw frames)) line)
-      ≡ behind (suc i) (matching rules false open_text (drop (suc i) (frames_in raw frames)) inner)
+      → beyond i (matching rules false open_text (drop i (frames_in raw frames)) line)
+      ≡ beyond (suc i) (matching rules false open_text (drop (suc i) (frames_in raw frames)) inner)
   unfolding inward
   goes_into_item rules open_text inner stays =
       match_next rules false open_text i (frame_in raw (get_or frames i other)) (drop (suc i) (frames_in raw frames)) line
@@ -146,7 +146,7 @@ module _ (rules : Rules) (open_text : Bool) (line inner : LineView) where
 
   from-quote : (start : Start) → start_of rules line ≡ start → Some inner ≡ goes_inward (quote_continuation rules start line) open_text → inner.lazy ≡ true
       → (open_text ≡ true) × (is_blank inner ≡ false)
-  unfolding behind_quote_marker past held
+  unfolding after_quote_marker past held
   from-quote QuoteMarker is e lazy =
       let same : inner.lazy ≡ line.lazy = ap (λ l. (held inner l).lazy) e in
       let text : start_of rules line ≡ TextLine = starts_text rules line (sym same ∙ lazy) in
@@ -211,9 +211,9 @@ match_lazy rules bare open_text c is_bare line inner rest stays lazy =
     let facts = from-container rules open_text line inner c is_bare stays lazy in
     goes-into-all rules bare open_text inner lazy facts.1 facts.0 rest
 
-pub behind_all : (raw : Raw) (frames : List code.Frame) (i : ℕ) (m : ℕ × LineView) (line : LineView) → i < length frames → m ≡ (length (drop (suc i) (frames_in raw frames)), line)
-    → (length frames, line) ≡ behind (suc i) m
-behind_all raw frames i m line less is = ap (λ n. (n, line)) (sym (rest-length raw frames i less)) ∙ ap (behind (suc i)) (sym is)
+pub beyond_all : (raw : Raw) (frames : List code.Frame) (i : ℕ) (m : ℕ × LineView) (line : LineView) → i < length frames → m ≡ (length (drop (suc i) (frames_in raw frames)), line)
+    → (length frames, line) ≡ beyond (suc i) m
+beyond_all raw frames i m line less is = ap (λ n. (n, line)) (sym (rest-length raw frames i less)) ∙ ap (beyond (suc i)) (sym is)
 
 -- quotes
 
@@ -323,16 +323,16 @@ nothing_left (f ∷ fs) (suc depth) level few = nothing_left fs depth level (ome
 module _ (rules : Rules) (open_text : Bool) (raw : Raw) (frames : List code.Frame) (i : ℕ) (line : LineView)
     (next : LeavesNext (frames_in raw frames) i line) where
   pub all_lazily : (inner : LineView) → i < length frames → Some inner ≡ goes_inward (continuation_if_lazy rules line) open_text → inner.lazy ≡ true
-      → (length frames, inner) ≡ behind i (matching rules false open_text (drop i (frames_in raw frames)) line)
+      → (length frames, inner) ≡ beyond i (matching rules false open_text (drop i (frames_in raw frames)) line)
   unfolding inward
   all_lazily inner less goes lazy =
       let rest = drop (suc i) (frames_in raw frames) in
       let stays : Some inner ≡ inward rules next.0.container false open_text line = goes ∙ ap (λ p. goes_inward p open_text) (sym (next.1.1 rules)) in
-      behind_all raw frames i (matching rules false open_text rest inner) inner less (match_lazy rules false open_text next.0.container false line inner rest stays lazy)
+      beyond_all raw frames i (matching rules false open_text rest inner) inner less (match_lazy rules false open_text next.0.container false line inner rest stays lazy)
       ∙ sym (match_next rules false open_text i next.0 rest line (drop i (frames_in raw frames)) false inner next.1.0 refl stays)
 
   pub none_lazily : None ≡ goes_inward (continuation_if_lazy rules line) open_text
-      → (i, line) ≡ behind i (matching rules false open_text (drop i (frames_in raw frames)) line)
+      → (i, line) ≡ beyond i (matching rules false open_text (drop i (frames_in raw frames)) line)
   unfolding inward
   none_lazily leaves =
       sym (match_stop rules false open_text i next.0 (drop (suc i) (frames_in raw frames)) line (drop i (frames_in raw frames)) false next.1.0 refl

@@ -13,8 +13,9 @@ use Rattle.cm_scan.specs.inlines.Links.{definitions_of}
 use Rattle.cm_scan.specs.blocks.Starts.{Start, TextLine, start_of, ItemStart, starts_at_one, can_interrupt, interrupts_paragraph, underline_of}
 use Rattle.cm_text.specs.Views.{seen_view}
 use Rattle.cm_text.specs.declared.view.View.{View}
-use Rattle.cm_text.specs.TextLines.{is_text_behind}
-use Rattle.cm_scan.specs.blocks.Blocks.{rest_of, NextLine, GoesOn, Ends, Underlines, by_interruption, by_underline, next_line}
+use Rattle.cm_text.specs.TextLines.{is_text_after}
+use Rattle.cm_scan.specs.blocks.Blocks.{rest_of, NextLine, GoesOn, Ends, Underlines, by_underline, next_line}
+use Rattle.cm_scan.specs.steps.LineSteps.{by_interruption}
 use Rattle.std.specs.List.{slice_range}
 use Rattle.cm_scan.proofs.lemmas.blocks.WordsInAnyCase.{slice_from}
 use Rattle.cm_block.specs.steps.LeafSteps.{level_above, heading_level}
@@ -115,8 +116,8 @@ drop-one zero text = refl
 drop-one (suc n) [] = refl
 drop-one (suc n) (b ∷ bs) = drop-one n bs
 
-pub behind_first : (text part : List ℕ) (n : ℕ) → part ≡ slice_range text n (length text) → take (length part - 1) (drop 1 part) ≡ drop (suc n) text
-behind_first text part n e = slice_from 1 part ∙ ap (drop 1) (e ∙ slice_from n text) ∙ drop-one n text
+pub after_first : (text part : List ℕ) (n : ℕ) → part ≡ slice_range text n (length text) → take (length part - 1) (drop 1 part) ≡ drop (suc n) text
+after_first text part n e = slice_from 1 part ∙ ap (drop 1) (e ∙ slice_from n text) ∙ drop-one n text
 
 -- a line that starts as text continues any run
 
@@ -126,7 +127,7 @@ unfolding next_line
 next-plain rules source line b u i =
     sym (λ k. elim (b k) as (λ _. NextLine) [ true ↦ Ends | false ↦ by_underline (u k) (not (is_empty (rest_of source))) (i k) ])
 
-pub text_goes_on : (view : View) → ((view.spaces == 0) && is_text_behind 0 view.rest.now) ≡ true → (rules : Rules) (source : List ℕ)
+pub text_goes_on : (view : View) → ((view.spaces == 0) && is_text_after 0 view.rest.now) ≡ true → (rules : Rules) (source : List ℕ)
     → GoesOn ≡ next_line rules source (seen_view view)
 text_goes_on view text rules source =
     next-plain rules source (seen_view view) (text_shows view text) (underlines-none view.lazy refl)

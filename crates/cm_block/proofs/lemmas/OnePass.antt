@@ -11,13 +11,13 @@ use Rattle.cm_tree.specs.declared.tree.ListKind.{ListKind}
 use Rattle.cm_scan.specs.blocks.Lines.{is_blank, content_of, with_ending, marks, size}
 use Rattle.cm_scan.specs.blocks.LineForms.{Fence, is_closing_fence}
 use Rattle.cm_scan.specs.blocks.HtmlBlocks.{HtmlKind, RawText, Comment, Instruction, Declaration, CharacterData, BlockTag, AnyTag, is_html_end, ends_at_blank_line}
-use Rattle.cm_scan.specs.blocks.Starts.{Start, IndentedCode, QuoteMarker, AtxHeading, OpeningFence, HtmlStart, BreakLine, ItemStart, TextLine, start_of, Continuation, Stays, StaysIfOpen, Leaves, behind_quote_marker, continuation_in_quote, content_column, first_content, continuation_in_item}
+use Rattle.cm_scan.specs.blocks.Starts.{Start, IndentedCode, QuoteMarker, AtxHeading, OpeningFence, HtmlStart, BreakLine, ItemStart, TextLine, start_of, Continuation, Stays, StaysIfOpen, Leaves, after_quote_marker, continuation_in_quote, content_column, first_content, continuation_in_item}
 use Rattle.cm_scan.specs.blocks.Parts.{LeafPart, heading, code, html, thematic_break, Parts, none, blank, leaf, leaves_paragraph_open, put_leaves, info_of}
 use Rattle.cm_scan.specs.blocks.Blocks.{add_text, NextLine, GoesOn, Ends, Underlines, next_line, TextRun, text_run, leaves_of_run, Taken, taken, closes_fence, fenced, html_to_end, html_to_blank, html_lines, code_line, indented, Inside, inside, is_bare, quote_parts, item_parts, fence_parts, html_parts, code_parts, text_parts, parts_by_start, parts_of}
 use Rattle.cm_scan.specs.laws.PartLaws.{goes_inward, next_inward}
-use Rattle.cm_scan.proofs.lemmas.blocks.LineSizes.{marks-behind_quote_marker, marks-first_content, Keeps, keeps-quote, keeps-item, size-append}
+use Rattle.cm_scan.proofs.lemmas.blocks.LineSizes.{marks-after_quote_marker, marks-first_content, Keeps, keeps-quote, keeps-item, size-append}
 use Rattle.cm_scan.proofs.lemmas.blocks.PartsByCases.{no_lines, blank_case, starting, inside-in, inside-out}
-use Rattle.cm_block.specs.OpenLeaf.{OpenLeaf, no_leaf, open_text, open_code, open_fence, open_html, run_leaves, closed_leaves, blank_lines_behind, LeafLine, stays_open, is_last, line_of_text, line_of_code, line_of_fence, line_of_html, line_of_leaf, LineOpens, begins_nothing, begin_of_start, begin_of, open_as}
+use Rattle.cm_block.specs.OpenLeaf.{OpenLeaf, no_leaf, open_text, open_code, open_fence, open_html, run_leaves, closed_leaves, blank_lines_after, LeafLine, stays_open, is_last, line_of_text, line_of_code, line_of_fence, line_of_html, line_of_leaf, LineOpens, begins_nothing, begin_of_start, begin_of, open_as}
 use Rattle.cm_block.specs.Machine.{ClosedPart, closed_blank, closed_quote, closed_item, put, put_all, Open, in_leaf, in_quote, in_item, has_open_text, Change, change, parts_of_leaves, closing, leaf_change, begin_by, begin, after_closing, leaf_step, step, Machine, new_machine, take_line, take_lines, close, parts_in_one_pass}
 use Rattle.cm_block.specs.Laws.{OnePass}
 use Rattle.cm_block.proofs.lemmas.BeginCases.{begin-cases}
@@ -60,12 +60,12 @@ fenced-alike rules fence columns text m (line ∷ lines) = go (closes_fence fenc
     go true e = refl
     go false e = e
 
-put-closing : (x : OpenLeaf) (p : Parts) → put_all (closing (in_leaf x)) p ≡ put_leaves (closed_leaves x) (put_blanks (blank_lines_behind x) p)
+put-closing : (x : OpenLeaf) (p : Parts) → put_all (closing (in_leaf x)) p ≡ put_leaves (closed_leaves x) (put_blanks (blank_lines_after x) p)
 unfolding closing
 put-closing x p =
-    put_all-append (parts_of_leaves (closed_leaves x)) (replicate (blank_lines_behind x) closed_blank) p
+    put_all-append (parts_of_leaves (closed_leaves x)) (replicate (blank_lines_after x) closed_blank) p
     ∙ put-leaves (closed_leaves x) _
-    ∙ ap (put_leaves (closed_leaves x)) (put-blanks (blank_lines_behind x) p)
+    ∙ ap (put_leaves (closed_leaves x)) (put-blanks (blank_lines_after x) p)
 
 -- the lines of a container, by the continuation of the next
 
@@ -174,13 +174,13 @@ module _ (rules : Rules) where
   leaf-last x leaves line lines e = ap (λ ps. put_all ps none) (leaf-line x line lines (Some (is_last leaves)) e) ∙ put_all-append (parts_of_leaves leaves) _ none ∙ put-leaves leaves _
 
   leaf-none : (x : OpenLeaf) (line : LineView) (lines : List LineView) → line_of_leaf rules x line ≡ None
-      → put_all (finish (in_leaf x) (line ∷ lines)) none ≡ put_leaves (closed_leaves x) (put_blanks (blank_lines_behind x) (pass (line ∷ lines)))
+      → put_all (finish (in_leaf x) (line ∷ lines)) none ≡ put_leaves (closed_leaves x) (put_blanks (blank_lines_after x) (pass (line ∷ lines)))
   unfolding step
   leaf-none x line lines e = finish-closing (in_leaf x) line lines (closing (in_leaf x)) (ap (leaf_step rules x line) e) ∙ put-closing x _
 
-  leaf-end : (x : OpenLeaf) → put_all (finish (in_leaf x) []) none ≡ put_leaves (closed_leaves x) (put_blanks (blank_lines_behind x) (parts_of rules []))
+  leaf-end : (x : OpenLeaf) → put_all (finish (in_leaf x) []) none ≡ put_leaves (closed_leaves x) (put_blanks (blank_lines_after x) (parts_of rules []))
   unfolding finish
-  leaf-end x = put-closing x none ∙ ap (λ p. put_leaves (closed_leaves x) (put_blanks (blank_lines_behind x) p)) (sym (no_lines rules))
+  leaf-end x = put-closing x none ∙ ap (λ p. put_leaves (closed_leaves x) (put_blanks (blank_lines_after x) p)) (sym (no_lines rules))
 
   -- the state that lines lead to
 
@@ -481,8 +481,8 @@ module _ (rules : Rules) where
     by-start IndentedCode e = code-pass _ shorter (code_line line) 1 [] lines refl less
     by-start QuoteMarker e =
         container-pass _ shorter (λ bare ps o. in_quote ps o) closed_quote (λ bare l. continuation_in_quote rules l) (λ bare. quote-closes) (λ bare. quote-stays) (λ bare. quote-goes) (λ bare l. keeps-quote rules l)
-        (behind_quote_marker line) [] lines _ _ (begun (behind_quote_marker line))
-        (omega (arith, marks-behind_quote_marker line e, size-cons line lines, size-cons (behind_quote_marker line) [], size-nil))
+        (after_quote_marker line) [] lines _ _ (begun (after_quote_marker line))
+        (omega (arith, marks-after_quote_marker line e, size-cons line lines, size-cons (after_quote_marker line) [], size-nil))
     by-start (AtxHeading h) e = begins-leaf (heading h.level h.content)
     by-start (OpeningFence fence) e =
         fence-pass _ shorter (open_as rules fence) (indent_of line) [] 1 lines less

@@ -73,7 +73,7 @@ ends-open ps = put_all-open ps false none
 
 -- the source of a run of text
 
-some-keep_byte : (b : ℕ) (bs : List ℕ) → is_space_or_tab b ≡ false → is_empty (keep_byte true b bs) ≡ false
+some-keep_byte : (b : ℕ) (bs : List ℕ) → is_space_or_tab b ≡ false → is_empty (keep_byte is_space_or_tab b bs) ≡ false
 some-keep_byte b [] e = grind (arith, e)
 some-keep_byte b (c ∷ cs) e = refl
 
@@ -257,9 +257,9 @@ begin-sound rules line = go (is_blank line) refl
 abbrev pub Fits : List ClosedPart → Change → Type 0
 Fits closed_parts c = Fit (closed_parts ++ c.closed) c.now × NotFresh c.closed c.now
 
-pub not-fresh-behind : (ps qs : List ClosedPart) (now : Open (List ClosedPart)) → NotFresh qs now → NotFresh (ps ++ qs) now
-not-fresh-behind [] qs now h = h
-not-fresh-behind (x ∷ ps) qs now h = tt
+pub not-fresh-beyond : (ps qs : List ClosedPart) (now : Open (List ClosedPart)) → NotFresh qs now → NotFresh (ps ++ qs) now
+not-fresh-beyond [] qs now h = h
+not-fresh-beyond (x ∷ ps) qs now h = tt
 
 -- there are some
 abbrev pub HasLeaves : List (LeafPart × ℕ) → Type 0
@@ -312,7 +312,7 @@ fits-begin rules line closed_parts = fits-within rules (suc (marks line.text)) l
 fits-after : (rules : Rules) (closed_parts closed : List ClosedPart) (line : LineView) → Fits closed_parts (after_closing rules closed line)
 fits-after rules closed_parts closed line =
     let h : Fits (closed_parts ++ closed) (begin rules line) = fits-begin rules line (closed_parts ++ closed) in
-    (subst (λ ps. Fit ps (begin rules line).now) (append_assoc closed_parts closed (begin rules line).closed) h.0, not-fresh-behind closed (begin rules line).closed (begin rules line).now h.1)
+    (subst (λ ps. Fit ps (begin rules line).now) (append_assoc closed_parts closed (begin rules line).closed) h.0, not-fresh-beyond closed (begin rules line).closed (begin rules line).now h.1)
 
 pub fits-step : (rules : Rules) (now : Open (List ClosedPart)) (line : LineView) (closed_parts : List ClosedPart) → Fit closed_parts now → Fits closed_parts (step rules now line)
 unfolding Fit step
@@ -337,7 +337,7 @@ fits-step rules (in_item kind column bare closed now) line closed_parts h =
       | None ↦ after_closing rules (closing (in_item kind column bare closed now)) line
     ])
     go None f = fits-after rules closed_parts (closing (in_item kind column bare closed now)) line
-    go (Some inner) f = ((not-fresh-behind closed (step rules now inner).closed (step rules now inner).now (f inner).1, (f inner).0), tt)
+    go (Some inner) f = ((not-fresh-beyond closed (step rules now inner).closed (step rules now inner).now (f inner).1, (f inner).0), tt)
 
 fit-take : (rules : Rules) (m : Machine) (lines : List LineView) → Fit m.closed m.now → Fit (take_lines rules m lines).closed (take_lines rules m lines).now
 unfolding take_lines take_line

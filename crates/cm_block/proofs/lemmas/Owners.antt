@@ -22,11 +22,11 @@ closed_part_owners n (closed_quote c) = map marked (owners_after n c)
 closed_part_owners n (closed_item kind c) = marked_first c (owners_after n c)
 
 -- the number of leaves before what follows it
-abbrev pub leaves_behind : ℕ → ClosedPart → ℕ
-leaves_behind n closed_blank = n
-leaves_behind n (closed_leaf x lines) = suc n
-leaves_behind n (closed_quote c) = n + leaf_count c
-leaves_behind n (closed_item kind c) = n + leaf_count c
+abbrev pub leaves_after : ℕ → ClosedPart → ℕ
+leaves_after n closed_blank = n
+leaves_after n (closed_leaf x lines) = suc n
+leaves_after n (closed_quote c) = n + leaf_count c
+leaves_after n (closed_item kind c) = n + leaf_count c
 
 -- parts after a closed part
 
@@ -57,7 +57,7 @@ next-leaves kind b (leaf x n p) f e = grind (arith, e)
 next-leaves kind b (quote c p) f e = grind (arith, e)
 next-leaves kind b (list other items p) f e = grind (arith, e)
 
-put-owners : (x : ClosedPart) (n : ℕ) (p : Parts) → owners_after n (put x p) ≡ closed_part_owners n x ++ owners_after (leaves_behind n x) p
+put-owners : (x : ClosedPart) (n : ℕ) (p : Parts) → owners_after n (put x p) ≡ closed_part_owners n x ++ owners_after (leaves_after n x) p
 unfolding put_item owners_after leaf_count
 put-owners closed_blank n p = refl
 put-owners (closed_leaf x m) n p = refl
@@ -78,7 +78,7 @@ put-owners (closed_item kind c) n p = go (next_items kind 0 p) refl
         plus : (a b : ℕ) → n + (a + b) ≡ n + a + b
         plus a b = omega arith
 
-put-leaves : (x : ClosedPart) (n : ℕ) (p : Parts) → n + leaf_count (put x p) ≡ leaves_behind n x + leaf_count p
+put-leaves : (x : ClosedPart) (n : ℕ) (p : Parts) → n + leaf_count (put x p) ≡ leaves_after n x + leaf_count p
 unfolding put_item leaf_count
 put-leaves closed_blank n p = refl
 put-leaves (closed_leaf x m) n p = omega arith
@@ -183,7 +183,7 @@ same-owned : {os ps : List Owner} {m n : ℕ} {t u : Targets} → os ≡ ps → 
 same-owned {ps = ps} {n = n} {t = t} e f g = ap₂ (λ os m. owned os m t) e f ∙ ap (owned ps n) g
 
 abbrev pub own_closed_part : (in_a_quote : Bool) → Owned → ClosedPart → Owned
-own_closed_part q s x = owned (s.owners ++ mark_all q (closed_part_owners s.leaves x)) (leaves_behind s.leaves x) (add_all s.table (closed_part_definitions x))
+own_closed_part q s x = owned (s.owners ++ mark_all q (closed_part_owners s.leaves x)) (leaves_after s.leaves x) (add_all s.table (closed_part_definitions x))
 
 unfoldable pub own_closed_parts : (in_a_quote : Bool) → Owned → List ClosedPart → Owned
 own_closed_parts q s [] = s
@@ -204,9 +204,9 @@ own-law q s [] = same-owned (sym (append-nil s.owners)) (omega arith) refl
 own-law q s (x ∷ ps) =
     own-law q (own_closed_part q s x) ps
     ∙ same-owned
-    (append_assoc s.owners (mark_all q (closed_part_owners s.leaves x)) (mark_all q (owners_after (leaves_behind s.leaves x) (put_all ps none)))
+    (append_assoc s.owners (mark_all q (closed_part_owners s.leaves x)) (mark_all q (owners_after (leaves_after s.leaves x) (put_all ps none)))
     ∙ ap (λ os. s.owners ++ os)
-    (sym (mark-append q (closed_part_owners s.leaves x) (owners_after (leaves_behind s.leaves x) (put_all ps none))) ∙ ap (mark_all q) (sym (put-owners x s.leaves (put_all ps none)))))
+    (sym (mark-append q (closed_part_owners s.leaves x) (owners_after (leaves_after s.leaves x) (put_all ps none))) ∙ ap (mark_all q) (sym (put-owners x s.leaves (put_all ps none)))))
     (sym (put-leaves x s.leaves (put_all ps none)))
     (sym (table-append s.table (closed_part_definitions x) (definitions_in (put_all ps none))) ∙ ap (add_all s.table) (sym (put-definitions x (put_all ps none))))
 

@@ -8,7 +8,7 @@ use Rattle.cm_scan.specs.blocks.Lines.{size}
 use Rattle.cm_scan.specs.blocks.Parts.{LeafPart, depths_of}
 use Rattle.cm_scan.specs.blocks.Blocks.{parts_within, parts_of, blocks_of, owners_of, reference_table, first_too_deep}
 use Rattle.cm_scan.specs.laws.PartLaws.{AreLines}
-use Rattle.cm_block.specs.OpenLeaf.{OpenLeaf, no_leaf, is_open_text, closed_leaves, blank_lines_behind, LeafLine, stays_open, is_last, line_of_leaf}
+use Rattle.cm_block.specs.OpenLeaf.{OpenLeaf, no_leaf, is_open_text, closed_leaves, blank_lines_after, LeafLine, stays_open, is_last, line_of_leaf}
 use Rattle.cm_block.specs.Machine.{in_leaf}
 use Rattle.cm_block.specs.Level.{Level, empty_level, closed_blocks, push_blank}
 use Rattle.cm_block.specs.Stack.{Owned, Stack, empty_stack, close_leaves, push_blanks, close_open, own_leaves, own_blanks, own_open, close_stack, push_leaf_line, push_line, push_lines}
@@ -39,12 +39,12 @@ unfolding push_blanks
 blanks-more zero v = refl
 blanks-more (suc n) v = blanks-more n (push_blank v)
 
-module _ (x : OpenLeaf) (xs : List (LeafPart × ℕ)) (n : ℕ) (leaves : xs ≡ closed_leaves x) (blanks : n ≡ blank_lines_behind x) where
+module _ (x : OpenLeaf) (xs : List (LeafPart × ℕ)) (n : ℕ) (leaves : xs ≡ closed_leaves x) (blanks : n ≡ blank_lines_after x) where
   pub level_with_blanks : (v w : Level) → 0 < n → w ≡ close_leaves v xs → push_blank w ≡ close_open v (in_leaf x)
   unfolding close_open
   level_with_blanks v w some is = go n some blanks
     where
-      go : (k : ℕ) → 0 < k → k ≡ blank_lines_behind x → push_blank w ≡ push_blanks (blank_lines_behind x) (close_leaves v (closed_leaves x))
+      go : (k : ℕ) → 0 < k → k ≡ blank_lines_after x → push_blank w ≡ push_blanks (blank_lines_after x) (close_leaves v (closed_leaves x))
       go zero some e = absurd (omega arith)
       go (suc k) some e = ap push_blank (is ∙ ap (close_leaves v) leaves) ∙ sym (blanks-more k (close_leaves v (closed_leaves x))) ∙ ap (λ m. push_blanks m (close_leaves v (closed_leaves x))) e
 
@@ -57,7 +57,7 @@ module _ (x : OpenLeaf) (xs : List (LeafPart × ℕ)) (n : ℕ) (leaves : xs ≡
   pub owners_with_blanks : (q p : Bool) (s t u : Owned) → u ≡ own_blanks p n t → p ≡ q → t ≡ own_leaves s xs → u ≡ own_open q s (in_leaf x)
   unfolding own_open
   owners_with_blanks q p s t u made same is =
-      made ∙ ap (λ b. own_blanks b n t) same ∙ ap (λ m. own_blanks q m t) blanks ∙ ap (own_blanks q (blank_lines_behind x)) (is ∙ ap (own_leaves s) leaves)
+      made ∙ ap (λ b. own_blanks b n t) same ∙ ap (λ m. own_blanks q m t) blanks ∙ ap (own_blanks q (blank_lines_after x)) (is ∙ ap (own_leaves s) leaves)
 
   pub owners_without : (q : Bool) (s t : Owned) → n ≤ 0 → t ≡ own_leaves s xs → t ≡ own_open q s (in_leaf x)
   unfolding own_open own_blanks
@@ -148,7 +148,7 @@ module _ (limits : LimitsView) (st : Stack) (lines : List LineView) (line l : Li
 
   pub tells_deep : (fault : BlockFault) → Deep fault limits st l → TellsDepth fault limits (lines ++ line ∷ [])
   tells_deep NoMemory h = tt
-  tells_deep TooLarge h = tt
+  tells_deep (TooLarge place) h = tt
   tells_deep (BlocksTooDeep n) h =
       by_depth true (grind (arith, h.0))
       ∙ ap Some (sym (h.1 ∙ ap suc (ap (λ s. length (close_stack s).owners) holds ∙ one_owner_each limits.rules lines so_far)))
@@ -196,7 +196,7 @@ matched_few rules bare open_text (f ∷ fs) line = go (inward rules f.container 
 pub deep_after : (fault : BlockFault) (limits : LimitsView) (before now : Stack) (line : LineView) (o : Owned) → push_line limits.rules before line ≡ now → (close_stack before).owners ≡ o.owners
     → DeepIn fault limits.blocks now o → Deep fault limits before line
 deep_after NoMemory limits before now line o is owners h = tt
-deep_after TooLarge limits before now line o is owners h = tt
+deep_after (TooLarge place) limits before now line o is owners h = tt
 deep_after (BlocksTooDeep n) limits before now line o is owners h =
     (subst (λ (s : Stack). limits.blocks < nesting s.now) (sym is) h.0, h.1 ∙ ap (λ os. suc (length os)) (sym owners))
 

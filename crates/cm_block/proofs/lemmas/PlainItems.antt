@@ -11,13 +11,15 @@ use Rattle.cm_text.specs.Views.{seen_view}
 use Rattle.cm_text.proofs.lemmas.IndentationLemmas.{tabs-cons}
 use Rattle.cm_text.proofs.lemmas.UnescapingLemmas.{boundary-at}
 use Rattle.std.specs.Str.{IsCharBoundary, IsUtf8}
+use Rattle.std.specs.Char.{is_ascii_digit}
+use Rattle.std.specs.Option.{option_map}
 use Rattle.cm_block.proofs.lemmas.MarkerPlaces.{marked}
 use Rattle.cm_text.specs.declared.view.View.{View}
-use Rattle.cm_scan.specs.Words.{is_digit, is_space_or_tab, is_blank_text, trim_start, skip, given, ◌<|>◌}
+use Rattle.cm_scan.specs.Words.{is_space_or_tab, is_blank_text, trim_start, skip, given, ◌<|>◌}
 use Rattle.cm_scan.specs.blocks.Lines.{is_blank, content_of, past}
-use Rattle.cm_scan.specs.blocks.LineForms.{ItemMarker, is_break_of, is_thematic_break, bullet_kind, marker_at_gap, bullet_marker, ordered_marker, item_marker}
+use Rattle.cm_scan.specs.blocks.LineForms.{ItemMarker, fewest_marks, is_break_of, is_thematic_break, bullet_kind, marker_at_gap, bullet_marker, ordered_marker, item_marker}
 use Rattle.cm_tree.specs.declared.tree.ListKind.{ListKind}
-use Rattle.cm_scan.specs.blocks.Starts.{BreakLine, ItemStart, seen_as, or_text, start_of_content, start_of, behind_marker, content_offset}
+use Rattle.cm_scan.specs.blocks.Starts.{BreakLine, ItemStart, or_text, start_of_content, start_of, after_marker, content_offset}
 use Rattle.cm_scan.proofs.lemmas.texts.ToldApart.{differs}
 use Rattle.cm_block.specs.steps.StartViews.{begins_break, begins_fence}
 use Rattle.cm_block.specs.steps.ContinuationViews.{begins_plain, PlainMarker, StartsPlainly, StartsItem}
@@ -72,7 +74,7 @@ module _ (text : List ℕ) (b k : ℕ) (some : 0 < length text) (first : get_or 
   not-break-of marker = go (b == marker) refl
     where
       fails : (i : ℕ) → i < length text → (get_or text i 0 == marker || is_space_or_tab (get_or text i 0)) ≡ false → is_break_of marker text ≡ false
-      fails i inside e = ap (λ v. v && nat_le 3 (count_by (λ x. x == marker) text)) (all-fails (λ x. x == marker || is_space_or_tab x) text i inside e)
+      fails i inside e = ap (λ v. v && nat_le fewest_marks (count_by (λ x. x == marker) text)) (all-fails (λ x. x == marker || is_space_or_tab x) text i inside e)
 
       go : (same : Bool) → (b == marker) ≡ same → is_break_of marker text ≡ false
       go true e =
@@ -89,7 +91,7 @@ module _ (text : List ℕ) (b k : ℕ) (some : 0 < length text) (first : get_or 
 
 module _ (b : ℕ) (bs : List ℕ) (m : ItemMarker) (marks : item_marker (b ∷ bs) ≡ Some m) where
   -- its first byte is none with which no marker starts
-  not-other : (test : ℕ → Bool) → test 45 ≡ false → test 43 ≡ false → test 42 ≡ false → ((c : ℕ) → test c ≡ true → is_digit c ≡ false) → test b ≡ false
+  not-other : (test : ℕ → Bool) → test 45 ≡ false → test 43 ≡ false → test 42 ≡ false → ((c : ℕ) → test c ≡ true → is_ascii_digit c ≡ false) → test b ≡ false
   not-other test h p s d = go (test b) refl
     where
       go : (v : Bool) → test b ≡ v → v ≡ false
@@ -99,8 +101,8 @@ module _ (b : ℕ) (bs : List ℕ) (m : ItemMarker) (marks : item_marker (b ∷ 
   pub marked_plain : is_space_or_tab b ≡ false
   marked_plain = not-other is_space_or_tab refl refl refl (λ c e. grind (arith, nat_tests, e))
 
-  not-byte : (c : ℕ) → (45 == c) ≡ false → (43 == c) ≡ false → (42 == c) ≡ false → is_digit c ≡ false → (b == c) ≡ false
-  not-byte c h p s d = not-other (λ x. x == c) h p s (λ x e. let is : x ≡ c = grind (arith, nat_tests, e) in ap is_digit is ∙ d)
+  not-byte : (c : ℕ) → (45 == c) ≡ false → (43 == c) ≡ false → (42 == c) ≡ false → is_ascii_digit c ≡ false → (b == c) ≡ false
+  not-byte c h p s d = not-other (λ x. x == c) h p s (λ x e. let is : x ≡ c = grind (arith, nat_tests, e) in ap is_ascii_digit is ∙ d)
 
   module _ (rules : Rules) (unbroken : is_thematic_break (b ∷ bs) ≡ false) where
     pub starts_marked : start_of_content rules (b ∷ bs) ≡ ItemStart m
@@ -110,12 +112,12 @@ module _ (b : ℕ) (bs : List ℕ) (m : ItemMarker) (marks : item_marker (b ∷ 
         differ c e is = absurd (grind (arith, nat_tests, e, is))
 
         go : (v : Bool) → begins_break b ≡ v → start_of_content rules (b ∷ bs) ≡ ItemStart m
-        go true e = sym (starts-break rules b bs e) ∙ ap₂ (λ t o. or_text (given t BreakLine <|> seen_as ItemStart o)) unbroken marks
+        go true e = sym (starts-break rules b bs e) ∙ ap₂ (λ t o. or_text (given t BreakLine <|> option_map ItemStart o)) unbroken marks
         go false e =
             sym (starts-item rules b bs
             (item-byte b (differ 62 (not-byte 62 refl refl refl refl)) (differ 35 (not-byte 35 refl refl refl refl)) (differ 60 (not-byte 60 refl refl refl refl)) e
             (not-other begins_fence refl refl refl (λ c h. grind (arith, nat_tests, h)))))
-            ∙ ap (λ o. or_text (seen_as ItemStart o)) marks
+            ∙ ap (λ o. or_text (option_map ItemStart o)) marks
 
 -- a bullet before a space
 
@@ -150,7 +152,7 @@ module _ (b : ℕ) (bs : List ℕ) (m : ItemMarker) (end : ℕ) (at : PlainMarke
       sym (starts_content rules line eager (omega (arith, indent, near))) ∙ ap (start_of_content rules) content
       ∙ starts_marked b bs m at.marks rules (no_break (b ∷ bs) b (end + 1) (omega (arith, at.within)) refl first at.within at.plain at.other)
 
-  module _ (behind : LineView) (is : behind ≡ behind_marker m line) where
+  module _ (after : LineView) (is : after ≡ after_marker m line) where
     c : ℕ
     c = get_or (b ∷ bs) (end + 1) 0
 
@@ -163,33 +165,33 @@ module _ (b : ℕ) (bs : List ℕ) (m : ItemMarker) (end : ℕ) (at : PlainMarke
         let width : suc m.digits ≡ end = omega (arith, at.ends) in
         ap (λ i. drop i (b ∷ bs)) width ∙ drop-cons (b ∷ bs) end 0 (omega (arith, at.within)) ∙ ap₂ (λ x xs. x ∷ xs) at.space (ap (λ i. drop i (b ∷ bs)) (let e : suc end ≡ end + 1 = omega arith in e) ∙ drop-cons (b ∷ bs) (end + 1) 0 at.within)
 
-    follows : behind.text ≡ 32 ∷ c ∷ cs
+    follows : after.text ≡ 32 ∷ c ∷ cs
     unfolding past
     follows = ap (λ (l : LineView). l.text) is ∙ ap (drop (suc m.digits)) content ∙ rest
 
-    one-column : indent_of behind ≡ 1
+    one-column : indent_of after ≡ 1
     unfolding c
     one-column =
-        let none : indent_from (behind.column + 1) (c ∷ cs) ≡ 0 = indent-none c cs at.plain (behind.column + 1) in
-        ap (indent_from behind.column) follows ∙ omega (arith, none)
+        let none : indent_from (after.column + 1) (c ∷ cs) ≡ 0 = indent-none c cs at.plain (after.column + 1) in
+        ap (indent_from after.column) follows ∙ omega (arith, none)
 
-    offset : content_offset behind ≡ 1
+    offset : content_offset after ≡ 1
     unfolding content_offset c
     offset =
-        let some : is_blank behind ≡ false = ap is_blank_text follows ∙ some-text c cs at.plain 1 in
+        let some : is_blank after ≡ false = ap is_blank_text follows ∙ some-text c cs at.plain 1 in
         rw (some, one-column) refl
 
     inner : LineView
     inner = record { column = line.column + n + (end + 1); text = drop (end + 1) (b ∷ bs); lazy = line.lazy }
 
-    enters : inner ≡ strip_columns 1 behind
+    enters : inner ≡ strip_columns 1 after
     unfolding inner c cs past
     enters =
         let left : drop (end + 1) (b ∷ bs) ≡ c ∷ cs = drop-cons (b ∷ bs) (end + 1) 0 at.within in
-        let place : line.column + n + (end + 1) ≡ behind.column + 1 = omega (arith, ap (λ (l : LineView). l.column) is, indent, at.ends) in
+        let place : line.column + n + (end + 1) ≡ after.column + 1 = omega (arith, ap (λ (l : LineView). l.column) is, indent, at.ends) in
         ap₂ (λ i t. record { column = i; text = t; lazy = line.lazy }) place left
-        ∙ ap (λ z. record { column = behind.column + 1; text = c ∷ cs; lazy = z }) (sym (ap (λ (l : LineView). l.lazy) is))
-        ∙ sym (ap (λ t. let k = strip_from 1 behind.column t in record { column = k.0; text = k.1; lazy = behind.lazy }) follows)
+        ∙ ap (λ z. record { column = after.column + 1; text = c ∷ cs; lazy = z }) (sym (ap (λ (l : LineView). l.lazy) is))
+        ∙ sym (ap (λ t. let k = strip_from 1 after.column t in record { column = k.0; text = k.1; lazy = after.lazy }) follows)
 
     item : (column : ℕ) → column ≡ n + end + 1 → StartsItem line m.kind column inner
     unfolding c
@@ -197,10 +199,10 @@ module _ (b : ℕ) (bs : List ℕ) (m : ItemMarker) (end : ℕ) (at : PlainMarke
       marker = m;
       starts = starts;
       kind_is = refl;
-      column_is = omega (arith, column_is m line behind n 1 is (sym indent) (sym offset), place, at.ends);
-      inner_is = sym (first_is_content m line behind 1 is (sym offset)) ∙ sym enters;
+      column_is = omega (arith, column_is m line after n 1 is (sym indent) (sym offset), place, at.ends);
+      inner_is = sym (first_is_content m line after 1 is (sym offset)) ∙ sym enters;
       some = ap is_blank_text shows ∙ some-text b bs first n;
-      more = ap is_blank enters ∙ ap (λ t. is_blank_text (strip_from 1 behind.column t).1) follows ∙ some-text c cs at.plain 0;
+      more = ap is_blank enters ∙ ap (λ t. is_blank_text (strip_from 1 after.column t).1) follows ∙ some-text c cs at.plain 0;
     }
 
 tabs-one-more : (text : List ℕ) (k : ℕ) → k < length text → get_or text k 0 ≡ 32 → tabs (take (suc k) text) ≡ tabs (take k text)
@@ -234,7 +236,7 @@ module _ (line : View) (m : ItemMarker) (end : ℕ) (h : StartsPlainly line m en
       go (b ∷ bs) e at =
           subst (λ (l : LineView). StartsItem (seen_view line) m.kind column l)
           (sym (is ∙ ap (λ t. record { column = line.column + line.spaces + (end + 1); text = drop (end + 1) t; lazy = line.lazy }) e))
-          (item b bs m end at line.spaces h.near (seen_view line) h.eager (ap (λ t. replicate line.spaces 32 ++ t) e) (behind_marker m (seen_view line)) refl column place)
+          (item b bs m end at line.spaces h.near (seen_view line) h.eager (ap (λ t. replicate line.spaces 32 ++ t) e) (after_marker m (seen_view line)) refl column place)
 
   -- no tab is before the content
   pub plain_tabs : (text : List ℕ) → text ≡ line.rest.now → tabs (take (end + 1) text) ≡ 0

@@ -17,9 +17,9 @@ use Rattle.cm_block.specs.steps.LevelSteps.{goes_on}
 use Rattle.cm_block.proofs.lemmas.FrameStartLemmas.{frame}
 use Rattle.cm_block.specs.steps.LevelViews.{list_in, level_in, IsListPlaced, IsLevelPlaced}
 use Rattle.cm_block.specs.steps.FrameViews.{container_of, frame_in, frames_in, AreFramesPlaced}
-use Rattle.cm_block.proofs.lemmas.LevelViewLemmas.{level-grows, level-placed-grows, frames-grow, frames-placed-grow, frames-append, frames-before, frames-behind}
-use Rattle.cm_block.specs.steps.FrontViews.{level_behind, frames_behind, innermost}
-use Rattle.cm_block.proofs.lemmas.FrontLemmas.{last-taken, frames-push, inner-pushed, inner-does, inner-closes, inner-item-closes, inner-list, item-opens-behind, item-closes, next-opens}
+use Rattle.cm_block.proofs.lemmas.LevelViewLemmas.{level-grows, level-placed-grows, frames-grow, frames-placed-grow, frames-append, frames-before, frames-beyond}
+use Rattle.cm_block.specs.steps.FrontViews.{level_after, frames_after, innermost}
+use Rattle.cm_block.proofs.lemmas.FrontLemmas.{last-taken, frames-push, inner-pushed, inner-does, inner-closes, inner-item-closes, inner-list, item-opens-beyond, item-closes, next-opens}
 use Rattle.cm_block.proofs.lemmas.Matching.{frames_last}
 
 module _ (front : List Block) (a b : Raw) (frames before : List code.Frame) (frame : code.Frame) (level : code_level.Level) (taken : frames ≡ before ++ frame ∷ []) (outside : level ≡ frame.level)
@@ -27,18 +27,18 @@ module _ (front : List Block) (a b : Raw) (frames before : List code.Frame) (fra
   apart : AreFramesPlaced a before × IsLevelPlaced a frame.level
   apart =
       let all = subst (AreFramesPlaced a) taken placed in
-      (frames-before a before (frame ∷ []) all, (frames-behind a before (frame ∷ []) all).0)
+      (frames-before a before (frame ∷ []) all, (frames-beyond a before (frame ∷ []) all).0)
 
   pub taken-placed : AreFramesPlaced b before × IsLevelPlaced b level
   taken-placed = (frames-placed-grow a b before grows apart.0, subst (IsLevelPlaced b) (sym outside) (level-placed-grows a b frame.level grows apart.1))
 
   -- what the others and the last are
-  pub taken-is : (now outer : List Frame) (last : Frame) → frames_behind front (frames_in a frames) ≡ now → now ≡ outer ++ last ∷ []
-      → (frames_behind front (frames_in b before) ≡ outer) × ((innermost front (frames_in b before) (level_in b level) ≡ last.level) × (container_of frame.container ≡ last.container))
+  pub taken-is : (now outer : List Frame) (last : Frame) → frames_after front (frames_in a frames) ≡ now → now ≡ outer ++ last ∷ []
+      → (frames_after front (frames_in b before) ≡ outer) × ((innermost front (frames_in b before) (level_in b level) ≡ last.level) × (container_of frame.container ≡ last.container))
   taken-is now outer last is all =
-      let same = last-taken front (frames_in a before) outer (frame_in a frame) last (ap (frames_behind front) (sym (frames_last a before frame) ∙ ap (frames_in a) (sym taken)) ∙ is ∙ all) in
+      let same = last-taken front (frames_in a before) outer (frame_in a frame) last (ap (frames_after front) (sym (frames_last a before frame) ∙ ap (frames_in a) (sym taken)) ∙ is ∙ all) in
       let still = frames-grow a b before grows apart.0 in (
-        ap (frames_behind front) still ∙ same.0,
+        ap (frames_after front) still ∙ same.0,
         (ap₂ (innermost front) still (ap (level_in b) outside ∙ level-grows a b frame.level grows apart.1) ∙ same.1.0, same.1.1),
       )
 
@@ -52,8 +52,8 @@ module _ (front : List Block) (a b : Raw) (frames : List code.Frame) (level : co
   pub still-placed : AreFramesPlaced b frames × IsLevelPlaced b level
   still-placed = (frames-placed-grow a b frames grows placed.0, level-placed-grows a b level grows placed.1)
 
-  pub same-frames : (now : List Frame) → frames_behind front (frames_in a frames) ≡ now → frames_behind front (frames_in b frames) ≡ now
-  same-frames now is = ap (frames_behind front) (frames-grow a b frames grows placed.0) ∙ is
+  pub same-frames : (now : List Frame) → frames_after front (frames_in a frames) ≡ now → frames_after front (frames_in b frames) ≡ now
+  same-frames now is = ap (frames_after front) (frames-grow a b frames grows placed.0) ∙ is
 
   -- a block that was opened is put
   pub block-put : (now : code_level.Level) (block : RawBlock) (before : Level) (made : Block) → innermost front (frames_in a frames) (level_in a level) ≡ before → block_in b block ≡ made
@@ -64,14 +64,14 @@ module _ (front : List Block) (a b : Raw) (frames : List code.Frame) (level : co
       ∙ ap (λ l. block_closes l made) is
 
   -- something is done in the innermost level
-  pub inner-done : (now : code_level.Level) (before : Level) (does : Level → Level) → ((l : Level) → does (level_behind front l) ≡ level_behind front (does l))
+  pub inner-done : (now : code_level.Level) (before : Level) (does : Level → Level) → ((l : Level) → does (level_after front l) ≡ level_after front (does l))
       → innermost front (frames_in a frames) (level_in a level) ≡ before → level_in b now ≡ does (level_in a level) → innermost front (frames_in b frames) (level_in b now) ≡ does before
   inner-done now before does same is done =
       ap₂ (innermost front) (frames-grow a b frames grows placed.0) done ∙ inner-does front does same (frames_in a frames) (level_in a level) ∙ ap does is
 
   -- a container is opened in a level
-  pub frames-open : (now opened : List Frame) (inner outside : Level) (container : Container) → frames_behind front (frames_in a frames) ≡ now → inner ≡ outside
-      → opened ≡ frames_behind front (frames_in b frames) ++ frame inner container ∷ [] → opened ≡ now ++ frame outside container ∷ []
+  pub frames-open : (now opened : List Frame) (inner outside : Level) (container : Container) → frames_after front (frames_in a frames) ≡ now → inner ≡ outside
+      → opened ≡ frames_after front (frames_in b frames) ++ frame inner container ∷ [] → opened ≡ now ++ frame outside container ∷ []
   frames-open now opened inner outside container is level_is all = all ∙ ap₂ (λ fs v. fs ++ frame v container ∷ []) (same-frames now is) level_is
 
 -- one more frame
@@ -104,20 +104,20 @@ module _ (front : List Block) (a b : Raw) (frames before after : List code.Frame
 
   pub next-is : (kind : ListKind) (column : ℕ) (inside : Level) → is_continued_by kind (container_of old.container) (level_in a old.level) ≡ true
       → level_in b next.level ≡ goes_on (item_closes (level_in a old.level) (item_of inside)) → container_of next.container ≡ an_item kind column
-      → (now outer : List Frame) (last : Frame) → frames_behind front (frames_in a frames) ≡ now → now ≡ outer ++ last ∷ []
-      → frames_behind front (frames_in b after) ≡ outer ++ frame (item_opens (close_container last.container last.level inside) kind) (an_item kind column) ∷ []
+      → (now outer : List Frame) (last : Frame) → frames_after front (frames_in a frames) ≡ now → now ≡ outer ++ last ∷ []
+      → frames_after front (frames_in b after) ≡ outer ++ frame (item_opens (close_container last.container last.level inside) kind) (an_item kind column) ∷ []
   next-is kind column inside continued level_is container_is now outer last is all =
       let same = taken-is front a b frames before old old.level taken refl placed grows now outer last is all in
       let grown = level-grows a b old.level grows (apart front a b frames before old old.level taken refl placed grows).1 in
       let still = frames_in b before in
       let item = item_of inside in
-      ap (λ fs. frames_behind front (frames_in b fs)) replaced
-      ∙ ap (frames_behind front) (frames_last b before next)
+      ap (λ fs. frames_after front (frames_in b fs)) replaced
+      ∙ ap (frames_after front) (frames_last b before next)
       ∙ frames-push front still (level_in b next.level) (container_of next.container)
       ∙ ap₂ (λ fs f. fs ++ f ∷ []) same.0
       (ap₂ frame
       (ap (innermost front still) (level_is ∙ next-opens kind (container_of old.container) (level_in a old.level) item continued ∙ ap (λ v. item_opens (item_closes v item) kind) (sym grown))
-      ∙ inner-does front (λ v. item_opens v kind) (item-opens-behind front kind) still (item_closes (level_in b old.level) item)
+      ∙ inner-does front (λ v. item_opens v kind) (item-opens-beyond front kind) still (item_closes (level_in b old.level) item)
       ∙ ap (λ v. item_opens v kind)
       (inner-item-closes front item still (level_in b old.level)
       ∙ ap (λ v. item_closes v item) same.1.0
@@ -127,7 +127,7 @@ module _ (front : List Block) (a b : Raw) (frames before after : List code.Frame
 
 -- ---- all that is there becomes a chunk
 
-pub no-frames : (raw : Raw) (front : List Block) (frames : List code.Frame) → frames_behind front (frames_in raw frames) ≡ [] → frames ≡ []
+pub no-frames : (raw : Raw) (front : List Block) (frames : List code.Frame) → frames_after front (frames_in raw frames) ≡ [] → frames ≡ []
 no-frames raw front [] none = refl
 no-frames raw front (frame ∷ frames) none = absurd (omega (arith, ap length none))
 
@@ -164,7 +164,7 @@ abbrev marked : List Block → Option OpenList → Bool → Bool → Bool → Le
 marked blocks list has ends separated = record { blocks = blocks; open_list = list; has_block = has; ends_blank = ends; separated = separated }
 
 abbrev row_in : Raw → List Block → List code.Frame → Bool → code_level.Level → Row
-row_in raw front frames bare level = row bare (frames_behind front (frames_in raw frames)) (innermost front (frames_in raw frames) (level_in raw level))
+row_in raw front frames bare level = row bare (frames_after front (frames_in raw frames)) (innermost front (frames_in raw frames) (level_in raw level))
 
 pub finished : (a b : Raw) (front more : List Block) (frames : List code.Frame) (bare : Bool) (level now : code_level.Level) → frames ≡ [] → level.open_list ≡ None
     → now.open_list ≡ level.open_list → now.has_block ≡ level.has_block → now.ends_blank ≡ level.ends_blank → now.separated ≡ level.separated
@@ -174,11 +174,11 @@ finished a b front more frames bare level now none no_list same_list same_has sa
     ap (option_map (list_in b)) (same_list ∙ no_list) ∙ sym (ap (option_map (list_in a)) no_list) in
     let blocks : more ++ blocks_in b now.blocks.items ≡ front ++ blocks_in a level.blocks.items =
     ap (λ bs. more ++ blocks_in b bs) empty ∙ append-nil more ∙ is in
-    let marks : level_behind more (level_in b now) ≡ with_both (level_in a level) (more ++ blocks_in b now.blocks.items) (option_map (list_in b) now.open_list) =
+    let marks : level_after more (level_in b now) ≡ with_both (level_in a level) (more ++ blocks_in b now.blocks.items) (option_map (list_in b) now.open_list) =
     ap₂ (λ h e. marked (more ++ blocks_in b now.blocks.items) (option_map (list_in b) now.open_list) h e now.separated) same_has same_ends
     ∙ ap (marked (more ++ blocks_in b now.blocks.items) (option_map (list_in b) now.open_list) level.has_block level.ends_blank) same_separated in
     ap₂ (row bare)
-    (ap (λ fs. frames_behind more (frames_in b fs)) none ∙ sym (ap (λ fs. frames_behind front (frames_in a fs)) none))
+    (ap (λ fs. frames_after more (frames_in b fs)) none ∙ sym (ap (λ fs. frames_after front (frames_in a fs)) none))
     (ap (λ fs. innermost more (frames_in b fs) (level_in b now)) none
     ∙ marks
     ∙ ap₂ (with_both (level_in a level)) blocks list

@@ -15,7 +15,7 @@ use Rattle.cm_scan.specs.blocks.Parts.{LeafPart, Parts, none, blank, leaf, quote
 use Rattle.cm_scan.specs.blocks.Blocks.{blocks_of, owners_of, reference_table}
 use Rattle.cm_scan.specs.laws.PartLaws.{goes_inward}
 use Rattle.cm_scan.proofs.lemmas.blocks.CountedLines.{one_owner}
-use Rattle.cm_block.specs.OpenLeaf.{OpenLeaf, no_leaf, open_text, open_code, open_fence, open_html, run_leaves, closed_leaves, blank_lines_behind, LeafLine, stays_open, is_last, line_of_leaf, LineOpens, begins_nothing, begins_leaf, begins_quote, begins_item, begin_of}
+use Rattle.cm_block.specs.OpenLeaf.{OpenLeaf, no_leaf, open_text, open_code, open_fence, open_html, run_leaves, closed_leaves, blank_lines_after, LeafLine, stays_open, is_last, line_of_leaf, LineOpens, begins_nothing, begins_leaf, begins_quote, begins_item, begin_of}
 use Rattle.cm_block.specs.Machine.{ClosedPart, closed_blank, closed_leaf, closed_quote, closed_item, put_all, Open, in_leaf, in_quote, in_item, has_open_text, Change, change, parts_of_leaves, closing, leaf_change, begin_by, begin_within, begin, after_closing, leaf_step, step, Machine, new_machine, take_line, take_lines, close, parts_in_one_pass}
 use Rattle.cm_block.specs.Level.{Level, empty_level, closed_blocks, push_blank, separated_next, block_opens, item_opens, block_closes, Item, push_block, push_item, item_of_parts, add, add_all}
 use Rattle.cm_block.specs.Stack.{Owned, Stack, stack, empty_stack, close_leaves, push_blanks, item_of, close_open, own_lines, own_blanks, own_open, close_stack, push_leaf_line, not_blank, push_by, push_within, push_begin, push_after, push_to_leaf, push_in, push_line, push_lines}
@@ -72,8 +72,8 @@ past-leaves [] = refl
 past-leaves (x ∷ xs) = refl
 
 -- closed parts after those of an item, where the first of all isn't a blank line among them
-abbrev Behind : List ClosedPart → List ClosedPart → Type 0
-Behind ps qs = past_blank (ps ++ qs) ≡ past_blank ps ++ qs
+abbrev Beyond : List ClosedPart → List ClosedPart → Type 0
+Beyond ps qs = past_blank (ps ++ qs) ≡ past_blank ps ++ qs
 
 item-own-same : (q : Bool) (s : Owned) (ps : List ClosedPart) → past_blank ps ≡ ps → own_item q s ps ≡ own_closed_parts q s ps
 item-own-same q s [] e = refl
@@ -85,14 +85,14 @@ item-own-same q s (closed_leaf x m ∷ ps) e = refl
 item-own-same q s (closed_quote c ∷ ps) e = refl
 item-own-same q s (closed_item kind c ∷ ps) e = refl
 
-item-own-append : (q : Bool) (s : Owned) (ps qs : List ClosedPart) → Behind ps qs → own_item q s (ps ++ qs) ≡ own_closed_parts q (own_item q s ps) qs
+item-own-append : (q : Bool) (s : Owned) (ps qs : List ClosedPart) → Beyond ps qs → own_item q s (ps ++ qs) ≡ own_closed_parts q (own_item q s ps) qs
 item-own-append q s [] qs e = item-own-same q s qs e ∙ own-append q s [] qs
 item-own-append q s (closed_blank ∷ ps) qs e = own-append q (own_lines s (Marker ∷ [])) ps qs
 item-own-append q s (closed_leaf x m ∷ ps) qs e = own-append q s (closed_leaf x m ∷ ps) qs
 item-own-append q s (closed_quote c ∷ ps) qs e = own-append q s (closed_quote c ∷ ps) qs
 item-own-append q s (closed_item kind c ∷ ps) qs e = own-append q s (closed_item kind c ∷ ps) qs
 
-item-add-append : (ps qs : List ClosedPart) → Behind ps qs → add_all empty_level (past_blank (ps ++ qs)) ≡ add_all (add_all empty_level (past_blank ps)) qs
+item-add-append : (ps qs : List ClosedPart) → Beyond ps qs → add_all empty_level (past_blank (ps ++ qs)) ≡ add_all (add_all empty_level (past_blank ps)) qs
 item-add-append ps qs e = ap (add_all empty_level) e ∙ add_all-append empty_level (past_blank ps) qs
 
 -- what a list needs of an item
@@ -165,27 +165,27 @@ run-past : (xs : List (LeafPart × ℕ)) (qs : List ClosedPart) → HasLeaves xs
 run-past [] qs h = absurd h
 run-past (x ∷ xs) qs h = refl
 
-closing-behind : (ps : List ClosedPart) (o : Open (List ClosedPart)) → Fit ps o → Behind ps (closing o)
+closing-beyond : (ps : List ClosedPart) (o : Open (List ClosedPart)) → Fit ps o → Beyond ps (closing o)
 unfolding closing closed_leaves Fit
-closing-behind (closed_blank ∷ ps) o h = refl
-closing-behind (closed_leaf x n ∷ ps) o h = refl
-closing-behind (closed_quote c ∷ ps) o h = refl
-closing-behind (closed_item kind c ∷ ps) o h = refl
-closing-behind [] (in_leaf no_leaf) h = refl
-closing-behind [] (in_leaf (open_text source)) h = run-past (run_leaves None source) [] (some-leaf (open_text source) h)
-closing-behind [] (in_leaf (open_code text lines blank_text blank_lines)) h = refl
-closing-behind [] (in_leaf (open_fence fence columns text lines)) h = refl
-closing-behind [] (in_leaf (open_html kind text lines)) h = refl
-closing-behind [] (in_quote ps o) h = refl
-closing-behind [] (in_item kind column bare ps o) h = refl
+closing-beyond (closed_blank ∷ ps) o h = refl
+closing-beyond (closed_leaf x n ∷ ps) o h = refl
+closing-beyond (closed_quote c ∷ ps) o h = refl
+closing-beyond (closed_item kind c ∷ ps) o h = refl
+closing-beyond [] (in_leaf no_leaf) h = refl
+closing-beyond [] (in_leaf (open_text source)) h = run-past (run_leaves None source) [] (some-leaf (open_text source) h)
+closing-beyond [] (in_leaf (open_code text lines blank_text blank_lines)) h = refl
+closing-beyond [] (in_leaf (open_fence fence columns text lines)) h = refl
+closing-beyond [] (in_leaf (open_html kind text lines)) h = refl
+closing-beyond [] (in_quote ps o) h = refl
+closing-beyond [] (in_item kind column bare ps o) h = refl
 
 -- closing it gives the level and the owners of its closed parts
 
 close-leaf : (v : Level) (x : OpenLeaf) → SoundLeaf x → close_open (block_opens v) (in_leaf x) ≡ add_all v (closing (in_leaf x))
 unfolding close_open closing
 close-leaf v x h =
-    ap (push_blanks (blank_lines_behind x)) (leaves-add v (closed_leaves x) (some-leaf x h)) ∙ blanks-add (blank_lines_behind x) (add_all v (parts_of_leaves (closed_leaves x)))
-    ∙ sym (add_all-append v (parts_of_leaves (closed_leaves x)) (replicate (blank_lines_behind x) closed_blank))
+    ap (push_blanks (blank_lines_after x)) (leaves-add v (closed_leaves x) (some-leaf x h)) ∙ blanks-add (blank_lines_after x) (add_all v (parts_of_leaves (closed_leaves x)))
+    ∙ sym (add_all-append v (parts_of_leaves (closed_leaves x)) (replicate (blank_lines_after x) closed_blank))
 
 close-held : (v : Level) (ps : List ClosedPart) (o : Open (List ClosedPart)) → Fit ps o → close_open (opened o v) (held o) ≡ add_all v (closing o)
 unfolding held close_open closing add_all add Fit closed_leaves close_leaves push_blanks
@@ -198,17 +198,17 @@ close-held v ps (in_quote qs o) h =
     ap (λ w. push_block v (Quote (closed_blocks w))) (close-held (add_all empty_level qs) qs o h ∙ sym (add_all-append empty_level qs (closing o)))
     ∙ ap (λ bs. push_block v (Quote bs)) (level_of_parts (qs ++ closing o)).blocks
 close-held v ps (in_item kind column bare qs o) h =
-    ap (λ w. push_item v kind (item_of w)) (close-held (add_all empty_level (past_blank qs)) qs o h.1 ∙ sym (item-add-append qs (closing o) (closing-behind qs o h.1)))
+    ap (λ w. push_item v kind (item_of w)) (close-held (add_all empty_level (past_blank qs)) qs o h.1 ∙ sym (item-add-append qs (closing o) (closing-beyond qs o h.1)))
     ∙ ap (push_item v kind) (item-level (qs ++ closing o))
 
 own-held : (q : Bool) (s : Owned) (ps : List ClosedPart) (o : Open (List ClosedPart)) → Fit ps o → own_open q (owned_in q s o) (held o) ≡ own_closed_parts q s (closing o)
 unfolding held own_open closing owned_in Fit
 own-held q s ps (in_leaf x) h =
-    ap (own_blanks q (blank_lines_behind x)) (own-leaves q s (closed_leaves x)) ∙ own-blanks q (blank_lines_behind x) (own_closed_parts q s (parts_of_leaves (closed_leaves x)))
-    ∙ sym (own-append q s (parts_of_leaves (closed_leaves x)) (replicate (blank_lines_behind x) closed_blank))
+    ap (own_blanks q (blank_lines_after x)) (own-leaves q s (closed_leaves x)) ∙ own-blanks q (blank_lines_after x) (own_closed_parts q s (parts_of_leaves (closed_leaves x)))
+    ∙ sym (own-append q s (parts_of_leaves (closed_leaves x)) (replicate (blank_lines_after x) closed_blank))
 own-held q s ps (in_quote qs o) h = own-held true (own_closed_parts true s qs) qs o h ∙ sym (own-append true s qs (closing o)) ∙ quote-owned q s (qs ++ closing o)
 own-held q s ps (in_item kind column bare qs o) h =
-    own-held q (own_item q s qs) qs o h.1 ∙ sym (item-own-append q s qs (closing o) (closing-behind qs o h.1)) ∙ item-owned q s kind (qs ++ closing o)
+    own-held q (own_item q s qs) qs o h.1 ∙ sym (item-own-append q s qs (closing o) (closing-beyond qs o h.1)) ∙ item-owned q s kind (qs ++ closing o)
 
 -- a stack goes with a change, at a level with these owners before
 pub record Follows (q : Bool) (s : Owned) (v : Level) (c : Change) (st : Stack) : Type 0 where
@@ -217,8 +217,8 @@ pub record Follows (q : Bool) (s : Owned) (v : Level) (c : Change) (st : Stack) 
   pub owned : st.owned ≡ owned_in q (own_closed_parts q s c.closed) c.now
 
 -- after more closed parts
-follows-behind : (q : Bool) (s : Owned) (v : Level) (ps : List ClosedPart) (c : Change) (st : Stack) → Follows q (own_closed_parts q s ps) (add_all v ps) c st → Follows q s v (change (ps ++ c.closed) c.now) st
-follows-behind q s v ps c st f = record {
+follows-beyond : (q : Bool) (s : Owned) (v : Level) (ps : List ClosedPart) (c : Change) (st : Stack) → Follows q (own_closed_parts q s ps) (add_all v ps) c st → Follows q s v (change (ps ++ c.closed) c.now) st
+follows-beyond q s v ps c st f = record {
   level = f.level ∙ ap (opened c.now) (sym (add_all-append v ps c.closed));
   now = f.now;
   owned = f.owned ∙ ap (λ s. owned_in q s c.now) (sym (own-append q s ps c.closed));
@@ -241,14 +241,14 @@ follows-quote : (q : Bool) (s : Owned) (v : Level) (c : Change) (st : Stack) →
 unfolding add_all held owned_in own_closed_parts
 follows-quote q s v c st f = record { level = refl; now = ap₂ in_quote f.level f.now; owned = f.owned }
 
-follows-item : (q : Bool) (s : Owned) (v : Level) (kind : ListKind) (column : ℕ) (bare : Bool) (qs : List ClosedPart) (c : Change) (st : Stack) → Behind qs c.closed
+follows-item : (q : Bool) (s : Owned) (v : Level) (kind : ListKind) (column : ℕ) (bare : Bool) (qs : List ClosedPart) (c : Change) (st : Stack) → Beyond qs c.closed
     → Follows q (own_item q s qs) (add_all empty_level (past_blank qs)) c st
     → Follows q s v (change [] (in_item kind column bare (qs ++ c.closed) c.now)) (stack (item_opens v kind) (in_item kind column bare st.level st.now) st.owned)
 unfolding add_all held owned_in own_closed_parts
-follows-item q s v kind column bare qs c st behind f = record {
+follows-item q s v kind column bare qs c st beyond f = record {
   level = refl;
-  now = ap₂ (in_item kind column bare) (f.level ∙ ap (opened c.now) (sym (item-add-append qs c.closed behind))) f.now;
-  owned = f.owned ∙ ap (λ s. owned_in q s c.now) (sym (item-own-append q s qs c.closed behind));
+  now = ap₂ (in_item kind column bare) (f.level ∙ ap (opened c.now) (sym (item-add-append qs c.closed beyond))) f.now;
+  owned = f.owned ∙ ap (λ s. owned_in q s c.now) (sym (item-own-append q s qs c.closed beyond));
 }
 
 -- the first line of an item
@@ -316,7 +316,7 @@ module _ (rules : Rules) where
   follows-after : (q : Bool) (s : Owned) (v : Level) (ps : List ClosedPart) (o : Open (List ClosedPart)) (line : LineView) → Fit ps o
       → Follows q s v (after_closing rules (closing o) line) (push_after rules q (owned_in q s o) (opened o v) (held o) line)
   follows-after q s v ps o line h =
-      follows-behind q s v (closing o) (begin rules line) _
+      follows-beyond q s v (closing o) (begin rules line) _
       (subst (λ w. Follows q (own_closed_parts q s (closing o)) (add_all v (closing o)) (begin rules line) (push_begin rules q (own_open q (owned_in q s o) (held o)) w line)) (sym (close-held v ps o h))
       (subst (λ t. Follows q (own_closed_parts q s (closing o)) (add_all v (closing o)) (begin rules line) (push_begin rules q t (add_all v (closing o)) line)) (sym (own-held q s ps o h))
       (follows-begin q (own_closed_parts q s (closing o)) (add_all v (closing o)) line)))
@@ -361,12 +361,12 @@ module _ (rules : Rules) where
       go None = past-closed (in_item kind column bare ps o) line n h
       go (Some inner) = refl
 
-  step-behind : (ps : List ClosedPart) (o : Open (List ClosedPart)) (line : LineView) → NotFresh ps o → Fit ps o → Behind ps (step rules o line).closed
-  step-behind [] o line n h = step-past o line n h
-  step-behind (closed_blank ∷ ps) o line n h = refl
-  step-behind (closed_leaf x m ∷ ps) o line n h = refl
-  step-behind (closed_quote c ∷ ps) o line n h = refl
-  step-behind (closed_item kind c ∷ ps) o line n h = refl
+  step-beyond : (ps : List ClosedPart) (o : Open (List ClosedPart)) (line : LineView) → NotFresh ps o → Fit ps o → Beyond ps (step rules o line).closed
+  step-beyond [] o line n h = step-past o line n h
+  step-beyond (closed_blank ∷ ps) o line n h = refl
+  step-beyond (closed_leaf x m ∷ ps) o line n h = refl
+  step-beyond (closed_quote c ∷ ps) o line n h = refl
+  step-beyond (closed_item kind c ∷ ps) o line n h = refl
 
   -- each line
 
@@ -403,7 +403,7 @@ module _ (rules : Rules) where
             | None ↦ after_closing rules (closing (in_quote qs o)) line
           ]) (pushed l)
       go None f = follows-after q s v ps (in_quote qs o) line h
-      go (Some inner) f = follows-quote q s v (change (qs ++ (step rules o inner).closed) (step rules o inner).now) _ (follows-behind true s empty_level qs (step rules o inner) _ (f inner))
+      go (Some inner) f = follows-quote q s v (change (qs ++ (step rules o inner).closed) (step rules o inner).now) _ (follows-beyond true s empty_level qs (step rules o inner) _ (f inner))
   follows-step (in_item kind column bare qs o) q s v ps line h =
       subst (λ b. Follows q s v (step rules (in_item kind column bare qs o) line) (pushed (goes_inward (continuation_in_item rules column bare line) b))) (sym (held-open o))
       (go (goes_inward (continuation_in_item rules column bare line) (has_open_text o)) (λ inner. follows-step o q (own_item q s qs) (add_all empty_level (past_blank qs)) qs inner h.1))
@@ -426,13 +426,13 @@ module _ (rules : Rules) where
             | None ↦ after_closing rules (closing (in_item kind column bare qs o)) line
           ]) (pushed l)
       go None f = follows-after q s v ps (in_item kind column bare qs o) line h
-      go (Some inner) f = follows-item q s v kind column false qs (step rules o inner) _ (step-behind qs o inner h.0 h.1) (f inner)
+      go (Some inner) f = follows-item q s v kind column false qs (step rules o inner) _ (step-beyond qs o inner h.0 h.1) (f inner)
 
   pub follows-line : (q : Bool) (s : Owned) (v : Level) (m : Machine) (st : Stack) (line : LineView) → Fit m.closed m.now → Follows q s v m st
       → Follows q s v (take_line rules m line) (push_in rules q st.owned st.level st.now line)
   unfolding take_line
   follows-line q s v m st line h f =
-      follows-behind q s v m.closed (step rules m.now line) _
+      follows-beyond q s v m.closed (step rules m.now line) _
       (subst (λ w. Follows q t u c (push_in rules q st.owned w st.now line)) (sym f.level)
       (subst (λ o. Follows q t u c (push_in rules q st.owned (opened m.now u) o line)) (sym f.now)
       (subst (λ r. Follows q t u c (push_in rules q r (opened m.now u) (held m.now) line)) (sym f.owned) (follows-step m.now q t u m.closed line h))))

@@ -4,13 +4,14 @@ use Rattle.std.specs.Prelude.{nat_le}
 use Rattle.cm_text.specs.Rules.{Rules}
 use Rattle.cm_text.specs.Lines.{LineView}
 use Rattle.cm_text.specs.Indentation.{indent_of, strip_columns}
-use Rattle.cm_text.specs.TextLines.{is_text_behind}
+use Rattle.cm_text.specs.TextLines.{is_text_after}
 use Rattle.cm_text.proofs.lemmas.StripLemmas.{strip_takes_columns}
 use Rattle.cm_scan.specs.Words.{is_space_or_tab, is_blank_text, trim_start, skip}
 use Rattle.cm_scan.specs.blocks.Lines.{is_blank, content_of, as_lazy}
-use Rattle.cm_scan.specs.blocks.Starts.{Start, start_of_content, start_of, start_by, may_be_lazy, can_interrupt, interrupts_paragraph, underline_of, underline_if, Continuation, StaysIfOpen, continuation_if_lazy, quote_continuation, continuation_in_quote, item_continuation, continuation_in_item}
+use Rattle.cm_scan.specs.blocks.Starts.{Start, start_of_content, start_of, may_be_lazy, can_interrupt, interrupts_paragraph, underline_of, Continuation, StaysIfOpen, continuation_if_lazy, quote_continuation, continuation_in_quote, item_continuation, continuation_in_item}
 use Rattle.cm_scan.specs.blocks.Blocks.{add_text, GoesOn, next_line}
 use Rattle.cm_scan.specs.laws.PartLaws.{goes_inward}
+use Rattle.cm_scan.specs.steps.LineSteps.{start_by, underline_if}
 use Rattle.cm_block.specs.OpenLeaf.{no_leaf, open_text, open_code, open_fence, open_html, line_of_text, line_of_leaf}
 use Rattle.cm_block.specs.Machine.{Open, in_leaf, in_quote, in_item, has_open_text}
 use Rattle.cm_block.specs.Level.{Level}
@@ -21,13 +22,13 @@ use Rattle.cm_block.proofs.lemmas.StartLemmas.{content-after}
 use Rattle.cm_block.proofs.lemmas.Lazy.{lazy_line}
 
 -- a line whose content starts like this isn't blank
-pub shows : (text : List ℕ) → is_text_behind 0 (trim_start text) ≡ true → is_blank_text text ≡ false
+pub shows : (text : List ℕ) → is_text_after 0 (trim_start text) ≡ true → is_blank_text text ≡ false
 unfolding skip
 shows [] h = absurd (cc (h))
 shows (b ∷ bs) h = go (is_space_or_tab b) refl h (λ k. shows bs k)
   where
-    go : (blank : Bool) → is_space_or_tab b ≡ blank → is_text_behind 0 (elim blank as (λ _. List ℕ) [ true ↦ trim_start bs | false ↦ b ∷ bs ]) ≡ true
-        → (is_text_behind 0 (trim_start bs) ≡ true → is_blank_text bs ≡ false) → is_blank_text (b ∷ bs) ≡ false
+    go : (blank : Bool) → is_space_or_tab b ≡ blank → is_text_after 0 (elim blank as (λ _. List ℕ) [ true ↦ trim_start bs | false ↦ b ∷ bs ]) ≡ true
+        → (is_text_after 0 (trim_start bs) ≡ true → is_blank_text bs ≡ false) → is_blank_text (b ∷ bs) ≡ false
     go true e h rest = ap (λ v. v && is_blank_text bs) e ∙ rest h
     go false e h rest = ap (λ v. v && is_blank_text bs) e
 
@@ -36,7 +37,7 @@ shows (b ∷ bs) h = go (is_space_or_tab b) refl h (λ k. shows bs k)
 abbrev IsText : Start → Type 0
 IsText start = (may_be_lazy start ≡ true) × (((line : LineView) → can_interrupt start line ≡ false) × ((rules : Rules) (line : LineView) → quote_continuation rules start line ≡ continuation_if_lazy rules line))
 
-module _ (rules : Rules) (line : LineView) (text : is_text_behind 0 (content_of line) ≡ true) where
+module _ (rules : Rules) (line : LineView) (text : is_text_after 0 (content_of line) ≡ true) where
   some : is_blank line ≡ false
   some = shows line.text text
 
@@ -102,12 +103,12 @@ content-stripped n line =
 
 -- through every level
 module _ (rules : Rules) where
-  behind-lazy : (line : LineView) (q : Bool) (s : Owned) (v : Level) (now : Open Level) → is_text_behind 0 (content_of line) ≡ true → has_open_text now ≡ true
+  beyond-lazy : (line : LineView) (q : Bool) (s : Owned) (v : Level) (now : Open Level) → is_text_after 0 (content_of line) ≡ true → has_open_text now ≡ true
       → push_in rules q s v now (as_lazy line) ≡ stack v (with_text now line) s
-  behind-lazy line q s v now text open_now =
+  beyond-lazy line q s v now text open_now =
       lazy_line rules (as_lazy line) q s v now refl (shows line.text text) open_now ∙ ap (λ n. stack v n s) (with-same now (as_lazy line) line refl)
 
-  push-text : (now : Open Level) (line : LineView) (q : Bool) (s : Owned) (v : Level) → is_text_behind 0 (content_of line) ≡ true → has_open_text now ≡ true
+  push-text : (now : Open Level) (line : LineView) (q : Bool) (s : Owned) (v : Level) → is_text_after 0 (content_of line) ≡ true → has_open_text now ≡ true
       → push_in rules q s v now line ≡ stack v (with_text now line) s
   unfolding has_open_text push_in with_text line_of_leaf continuation_in_item
   push-text (in_leaf (open_text source)) line q s v text e =
@@ -118,7 +119,7 @@ module _ (rules : Rules) where
   push-text (in_leaf (open_html kind t lines)) line q s v text e = grind (arith, e)
   push-text (in_quote w now) line q s v text e =
       ap pushed (ap₂ goes_inward (in-quote rules line text) e)
-      ∙ ap (λ (c : Stack). stack v (in_quote c.level c.now) c.owned) (behind-lazy line true s w now text e)
+      ∙ ap (λ (c : Stack). stack v (in_quote c.level c.now) c.owned) (beyond-lazy line true s w now text e)
     where
       pushed : Option LineView → Stack
       pushed l = elim l as (λ _. Stack) [
@@ -129,7 +130,7 @@ module _ (rules : Rules) where
       let inner = strip_columns column line in
       let same = content-stripped column line in
       by-continuation line.lazy (is_blank line) (nat_le column (indent_of line)) (some rules line text)
-      (push-text now inner q s w (ap (is_text_behind 0) same ∙ text) e ∙ ap (λ n. stack w n s) (with-same now inner line same))
+      (push-text now inner q s w (ap (is_text_after 0) same ∙ text) e ∙ ap (λ n. stack w n s) (with-same now inner line same))
     where
       pushed : Option LineView → Stack
       pushed l = elim l as (λ _. Stack) [
@@ -141,7 +142,7 @@ module _ (rules : Rules) where
       into c = stack v (in_item kind column false c.level c.now) c.owned
 
       if-lazy : pushed (goes_inward (continuation_if_lazy rules line) (has_open_text now)) ≡ stack v (in_item kind column false w (with_text now line)) s
-      if-lazy = ap pushed (ap₂ goes_inward (lazily rules line text) e) ∙ ap into (behind-lazy line q s w now text e)
+      if-lazy = ap pushed (ap₂ goes_inward (lazily rules line text) e) ∙ ap into (beyond-lazy line q s w now text e)
 
       by-continuation : (lazy blank reaches : Bool) → blank ≡ false → push_in rules q s w now (strip_columns column line) ≡ stack w (with_text now line) s
           → pushed (goes_inward (elim lazy as (λ _. Continuation) [

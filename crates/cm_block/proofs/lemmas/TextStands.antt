@@ -8,7 +8,7 @@ use Rattle.cm_text.specs.Rules.{Rules}
 use Rattle.cm_text.specs.LineText.{is_line}
 use Rattle.cm_text.specs.Lines.{LineView, plain_line}
 use Rattle.cm_text.specs.Indentation.{indent_of}
-use Rattle.cm_text.specs.TextLines.{is_text_behind, are_text}
+use Rattle.cm_text.specs.TextLines.{is_text_after, are_text}
 use Rattle.cm_scan.specs.Words.{trim_start}
 use Rattle.cm_scan.specs.blocks.Lines.{content_of}
 use Rattle.cm_scan.specs.blocks.Blocks.{add_text}
@@ -30,8 +30,8 @@ use Rattle.cm_block.proofs.lemmas.ContainerLemmas.{count_taken}
 use Rattle.cm_block.proofs.lemmas.Frames.{open_text_of}
 use Rattle.cm_block.proofs.lemmas.ParserLemmas.{stack_stays, stands_next}
 use Rattle.cm_block.proofs.lemmas.TextGoesOn.{text_goes_on}
-use Rattle.cm_block.proofs.lemmas.TextOpens.{indent-behind, opens}
-use Rattle.cm_block.proofs.lemmas.TextRunLemmas.{content_behind, content_text}
+use Rattle.cm_block.proofs.lemmas.TextOpens.{indent-beyond, opens}
+use Rattle.cm_block.proofs.lemmas.TextRunLemmas.{content_after, content_text}
 
 -- the open containers in a row, with more text in the innermost
 text-nested : (bare : Bool) (fs : List Frame) (v : Level) (source : List ℕ) (line : LineView)
@@ -56,7 +56,7 @@ text-nested bare (f ∷ fs) v source line = go f.container (text-nested bare fs 
     go a_quote h = ap (here a_quote false) h
     go (an_item kind column) h = ap (here (an_item kind column) false) h
 
-text-pushed : (rules : Rules) (bare : Bool) (fs : List Frame) (v : Level) (source : List ℕ) (s : Owned) (line : LineView) → is_text_behind 0 (content_of line) ≡ true
+text-pushed : (rules : Rules) (bare : Bool) (fs : List Frame) (v : Level) (source : List ℕ) (s : Owned) (line : LineView) → is_text_after 0 (content_of line) ≡ true
     → stack_with false fs v (open_text (add_text source line)) s ≡ push_line rules (stack_with bare fs v (open_text source) s) line
 unfolding push_line
 text-pushed rules bare fs v source s line text =
@@ -77,7 +77,7 @@ record Goes (old new : parser.BlockParser) (times : ℕ) : Type 0 where
   tests : new.tests ≡ min (old.tests + times) (2 ^ 128 - 1)
 
 text-next : (old new : parser.BlockParser) (lines : List LineView) (source : List ℕ) (line : LineView) → leaf_of old.leaf ≡ open_text source
-    → leaf_of new.leaf ≡ open_text (add_text source line) → Goes old new 2 → old.limits.blocks ≤ 500 → is_text_behind 0 (content_of line) ≡ true → is_line line.text ≡ true
+    → leaf_of new.leaf ≡ open_text (add_text source line) → Goes old new 2 → old.limits.blocks ≤ 500 → is_text_after 0 (content_of line) ≡ true → is_line line.text ≡ true
     → HasTaken old lines → HasTaken new (lines ++ line ∷ [])
 text-next old new lines source line before now g few text one h =
     stands_next old new lines line line 2 refl one h pushed (omega (arith, h.few, ap length g.frames)) few tested g.tests g.limits g.fault
@@ -105,13 +105,13 @@ text-next old new lines source line before now g few text one h =
 
 -- a line of text, by its content
 abbrev begins : List ℕ → Bool
-begins line = is_text_behind 0 (trim_start line)
+begins line = is_text_after 0 (trim_start line)
 
-begins-behind : (spaces : ℕ) (lines : List (List ℕ)) → are_text spaces lines ≡ true → list_all begins lines ≡ true
-begins-behind spaces [] h = refl
-begins-behind spaces (line ∷ lines) h =
-    let parts = and_parts (is_text_behind spaces line) (are_text 0 lines) h in
-    ap₂ (λ a b. a && b) (ap (is_text_behind 0) (content_behind spaces line parts.0) ∙ content_text spaces line parts.0) (begins-behind 0 lines parts.1)
+begins-beyond : (spaces : ℕ) (lines : List (List ℕ)) → are_text spaces lines ≡ true → list_all begins lines ≡ true
+begins-beyond spaces [] h = refl
+begins-beyond spaces (line ∷ lines) h =
+    let parts = and_parts (is_text_after spaces line) (are_text 0 lines) h in
+    ap₂ (λ a b. a && b) (ap (is_text_after 0) (content_after spaces line parts.0) ∙ content_text spaces line parts.0) (begins-beyond 0 lines parts.1)
 
 texts-stand : (texts : List (List ℕ)) (old new : parser.BlockParser) (lines : List LineView) (source : List ℕ) → 0 < length texts
     → leaf_of old.leaf ≡ open_text source → leaf_of new.leaf ≡ open_text (add_lines source (map plain_line texts)) → Goes old new (2 * length texts) → old.limits.blocks ≤ 500
@@ -150,7 +150,7 @@ record Opens (old new : parser.BlockParser) (times : ℕ) : Type 0 where
   tests : new.tests ≡ min (old.tests + times) (2 ^ 128 - 1)
 
 text-first : (old new : parser.BlockParser) (lines : List LineView) (line : LineView) → old.stack.frames ≡ [] → leaf_of old.leaf ≡ no_leaf
-    → leaf_of new.leaf ≡ open_text (content_of line) → Opens old new 2 → old.limits.blocks ≤ 500 → is_text_behind 0 (content_of line) ≡ true → line.lazy ≡ false
+    → leaf_of new.leaf ≡ open_text (content_of line) → Opens old new 2 → old.limits.blocks ≤ 500 → is_text_after 0 (content_of line) ≡ true → line.lazy ≡ false
     → nat_le 4 (indent_of line) ≡ false → is_line line.text ≡ true → HasTaken old lines → HasTaken new (lines ++ line ∷ [])
 unfolding nest count_open
 text-first old new lines line top before now g few text eager near one h =
@@ -177,11 +177,11 @@ text-first old new lines line top before now g few text eager near one h =
     tested : Tested (count_of (stack_of new) - count_of (stack_of old)) (old.limits.blocks + 5) 0 2
     tested = (λ below. omega (arith, fewer), omega arith)
 
-first-text : (spaces : ℕ) (l : List ℕ) → spaces < 4 → is_text_behind spaces l ≡ true
-    → (is_text_behind 0 (content_of (plain_line l)) ≡ true) × (nat_le 4 (indent_of (plain_line l)) ≡ false)
+first-text : (spaces : ℕ) (l : List ℕ) → spaces < 4 → is_text_after spaces l ≡ true
+    → (is_text_after 0 (content_of (plain_line l)) ≡ true) × (nat_le 4 (indent_of (plain_line l)) ≡ false)
 first-text spaces l near text = (
-  ap (is_text_behind 0) (content_behind spaces l text) ∙ content_text spaces l text,
-  ap (nat_le 4) (indent-behind spaces 0 l text) ∙ below,
+  ap (is_text_after 0) (content_after spaces l text) ∙ content_text spaces l text,
+  ap (nat_le 4) (indent-beyond spaces 0 l text) ∙ below,
 )
   where
     below : nat_le 4 spaces ≡ false
@@ -192,10 +192,10 @@ texts-open : (texts : List (List ℕ)) (spaces : ℕ) (old new : parser.BlockPar
     → are_text spaces texts ≡ true → list_all is_line texts ≡ true → HasTaken old lines → HasTaken new (lines ++ map plain_line texts)
 texts-open [] spaces old new lines some near top before now g few text one h = absurd (omega (arith, some))
 texts-open (l ∷ []) spaces old new lines some near top before now g few text one h =
-    let first = first-text spaces l near (and_parts (is_text_behind spaces l) true text).0 in
+    let first = first-text spaces l near (and_parts (is_text_after spaces l) true text).0 in
     text-first old new lines (plain_line l) top before now g few first.0 refl first.1 (and_parts (is_line l) true one).0 h
 texts-open (l ∷ m ∷ ms) spaces old new lines some near top before now g few text one h =
-    let parts = and_parts (is_text_behind spaces l) (are_text 0 (m ∷ ms)) text in
+    let parts = and_parts (is_text_after spaces l) (are_text 0 (m ∷ ms)) text in
     let are = and_parts (is_line l) (list_all is_line (m ∷ ms)) one in
     let first = first-text spaces l near parts.0 in
     let line = plain_line l in
@@ -212,7 +212,7 @@ texts-open (l ∷ m ∷ ms) spaces old new lines some near top before now g few 
       tests = omega (arith, g.tests);
     } in
     subst (HasTaken new) (append_assoc lines (line ∷ []) (map plain_line (m ∷ ms)))
-    (texts-stand (m ∷ ms) mid new (lines ++ line ∷ []) (content_of line) (omega arith) refl now rest (omega (arith, few, ap (λ k. k.blocks) g.limits)) (begins-behind 0 (m ∷ ms) parts.1) are.1 opened)
+    (texts-stand (m ∷ ms) mid new (lines ++ line ∷ []) (content_of line) (omega arith) refl now rest (omega (arith, few, ap (λ k. k.blocks) g.limits)) (begins-beyond 0 (m ∷ ms) parts.1) are.1 opened)
 
 -- in both cases
 
@@ -252,7 +252,7 @@ text_stands texts spaces old new lines some takes level now frames bare owners l
     go (open_text source) is =
         texts-stand texts old new lines source some is (now source (ap (λ x. (with_run old.stack.level x).1) is))
         (record { frames = frames; level = level ∙ ap (λ x. (with_run old.stack.level x).0) is; bare = bare; owners = owners; limits = limits; fault = fault; tests = tests })
-        few (begins-behind spaces texts text) one h
+        few (begins-beyond spaces texts text) one h
     go no_leaf is =
         let all : nothing no_leaf ≡ true = sym (ap (λ x. is_open_text x || nothing x) is) ∙ taken in
         let parts = and_parts (nat_lt spaces 4) _ all in

@@ -3,15 +3,19 @@ use Rattle.std.specs.Prelude.{◌≡◌, ℕ, Bool, true, false, not, ◌||◌, 
 use Rattle.std.specs.Option.{option_map}
 use Rattle.cm_text.specs.Rules.{Rules}
 use Rattle.cm_text.specs.Lines.{LineView}
+use Rattle.cm_text.specs.Views.{seen_view}
 use Rattle.cm_scan.specs.blocks.Lines.{is_blank}
 use Rattle.cm_scan.specs.blocks.Parts.{LeafPart, heading, thematic_break}
-use Rattle.cm_scan.specs.blocks.Starts.{Start, QuoteMarker, AtxHeading, BreakLine, ItemStart}
-use Rattle.cm_block.specs.declared.counted_line.Begins.{Begins}
-use Rattle.cm_block.specs.declared.counted_line.Begins.TheVariants.{Nothing, Quote, Item, Leaf}
+use Rattle.cm_scan.specs.blocks.Starts.{Start, QuoteMarker, AtxHeading, BreakLine, ItemStart, start_of}
+use Rattle.cm_block.specs.declared.line_tests.Begins.{Begins}
+use Rattle.cm_block.specs.declared.line_tests.Begins.TheVariants.{Nothing, Quote, Item, Leaf}
+use Rattle.cm_block.specs.declared.counted_line.readings.Starts.{Starts}
+use Rattle.cm_block.specs.declared.counted_line.readings.Starts.TheVariants as starts
 use Rattle.cm_block.specs.declared.open_leaf.OpenLeaf.{OpenLeaf}
 use Rattle.cm_block.specs.declared.open_leaf.LeafLine.{LeafLine}
 use Rattle.cm_block.specs.OpenLeaf.{LineOpens, begins_leaf, begins_quote, begins_item, begin_of_start, begin_of}
 use Rattle.cm_block.specs.steps.StartViews.{seen}
+use Rattle.cm_block.specs.steps.ContinuationViews.{seen_marker}
 use Rattle.cm_block.specs.steps.LeafSteps.{taken_of}
 
 -- what a line starts, where it is this to the leaf that is open then
@@ -43,6 +47,11 @@ whole_leaves start = of_one_line (whole_leaf start)
 -- the line opens a leaf that further lines may continue
 abbrev pub opens_leaf : Start → Bool
 opens_leaf start = not (is_whole start || begins_container start)
+
+-- what the line starts, where that is no quote
+abbrev pub IsStart : Rules → LineView → Starts → Type 0
+IsStart rules line (starts.Item marker searched) = (start_of rules line ≡ ItemStart (seen_marker marker)) × (seen_view searched.view ≡ line)
+IsStart rules line (starts.Leaf start) = (start_of rules line ≡ seen start.found) × (begins_container (seen start.found) ≡ false)
 
 -- what the line starts, and how it continues
 abbrev pub Found : Rules → LineView → Begins → LineView → Type 0

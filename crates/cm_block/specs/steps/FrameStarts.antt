@@ -58,4 +58,4 @@ LeafBegins rules start line before owned now =
 abbrev pub DeepIn : BlockFault → ℕ → Stack → Owned → Type 0
 DeepIn (BlocksTooDeep n) limit now owned = (limit < nesting now.now) × (n ≡ suc (length owned.owners))
 DeepIn NoMemory limit now owned = ⊤
-DeepIn TooLarge limit now owned = ⊤
+DeepIn (TooLarge place) limit now owned = ⊤

@@ -28,8 +28,8 @@ matching rules bare open_text (f ∷ fs) line = elim (inward rules f.container (
 ]
 
 -- after the given number of containers
-abbrev pub behind : ℕ → ℕ × LineView → ℕ × LineView
-behind n m = (n + m.0, m.1)
+abbrev pub beyond : ℕ → ℕ × LineView → ℕ × LineView
+beyond n m = (n + m.0, m.1)
 
 -- after the given number of these containers comes one in which the line doesn't stay by itself
 abbrev pub LeavesNext : List Frame → ℕ → LineView → Type 0

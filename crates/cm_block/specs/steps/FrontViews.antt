@@ -4,8 +4,8 @@ use Rattle.cm_tree.specs.declared.tree.Block.{Block}
 use Rattle.cm_block.specs.Level.{Level}
 use Rattle.cm_block.specs.Frames.{Frame}
 
-abbrev pub level_behind : (front : List Block) → Level → Level
-level_behind front level = record {
+abbrev pub level_after : (front : List Block) → Level → Level
+level_after front level = record {
   blocks = front ++ level.blocks;
   open_list = level.open_list;
   has_block = level.has_block;
@@ -14,11 +14,11 @@ level_behind front level = record {
 }
 
 -- the open containers, of which the first one's level is the document's
-abbrev pub frames_behind : (front : List Block) → List Frame → List Frame
-frames_behind front [] = []
-frames_behind front (f ∷ fs) = record { level = level_behind front f.level; container = f.container } ∷ fs
+abbrev pub frames_after : (front : List Block) → List Frame → List Frame
+frames_after front [] = []
+frames_after front (f ∷ fs) = record { level = level_after front f.level; container = f.container } ∷ fs
 
 -- the innermost level, which is the document's where no container is open
 abbrev pub innermost : (front : List Block) → List Frame → Level → Level
-innermost front [] level = level_behind front level
+innermost front [] level = level_after front level
 innermost front (f ∷ fs) level = level

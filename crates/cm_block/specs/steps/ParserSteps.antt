@@ -17,7 +17,7 @@ use Rattle.cm_block.specs.Parser.{stack_of}
 abbrev pub Deep : BlockFault → LimitsView → Stack → LineView → Type 0
 Deep (BlocksTooDeep n) limits before line = (limits.blocks < nesting (push_line limits.rules before line).now) × (n ≡ suc (length (close_stack before).owners))
 Deep NoMemory limits before line = ⊤
-Deep TooLarge limits before line = ⊤
+Deep (TooLarge place) limits before line = ⊤
 
 -- a level and the open leaf once a run of text is opened there, unless a leaf is open
 abbrev pub with_run : Level → OpenLeaf → Level × OpenLeaf

@@ -3,9 +3,9 @@ ghost use Rattle.std.specs.Prelude.{◌≡◌, ◌≤◌, ◌&&◌, ◌||◌};
 ghost use Rattle.std.specs.Prelude.{drop, length, nat_le, true, false, MatchOption};
 ghost use Rattle.cm_block.specs.Prelude.{indent_of, strip_columns, seen_view, is_blank, QuoteMarker};
 ghost use Rattle.cm_block.specs.Prelude.{ItemStart, start_of, may_be_lazy};
-ghost use Rattle.cm_block.specs.Prelude.{continuation_if_lazy, behind_quote_marker, run_length};
+ghost use Rattle.cm_block.specs.Prelude.{continuation_if_lazy, after_quote_marker, run_length};
 ghost use Rattle.cm_block.specs.Prelude.{continuation_in_quote, content_offset, content_column};
-ghost use Rattle.cm_block.specs.Prelude.{behind_marker, continuation_in_item, first_content};
+ghost use Rattle.cm_block.specs.Prelude.{after_marker, continuation_in_item, first_content};
 ghost use Rattle.cm_block.specs.Prelude.{as_lazy, goes_inward, given};
 ghost use Rattle.cm_text.specs.Rules as all;
 ghost use Rattle.cm_block.specs.steps.LineTests.{Tested};
@@ -19,9 +19,9 @@ use cm_text::{Rules, View, leading_spaces};
 
 /// The number of spaces at the start of a text, and what follows them.
 #[inline(always)]
-fn behind_spaces(text: &str) -> (usize, &str)
+fn after_spaces(text: &str) -> (usize, &str)
     ensures spaces { result.0 ≡ run_length 32 text.now }
-    ensures behind { result.1.now ≡ drop result.0 text.now }
+    ensures beyond { result.1.now ≡ drop result.0 text.now }
     ensures within { result.0 ≤ length text.now }
 {
     let spaces = leading_spaces(text);
@@ -33,7 +33,7 @@ fn behind_spaces(text: &str) -> (usize, &str)
 pub(crate) fn with_columns<'a>(line: &View<'a>) -> View<'a>
     ensures { seen_view result ≡ seen_view line.now }
 {
-    let (spaces, rest) = behind_spaces(line.rest);
+    let (spaces, rest) = after_spaces(line.rest);
     View {
         column: line.column,
         spaces: line.spaces + spaces,
@@ -97,7 +97,7 @@ fn begins_lazily(rules: Rules, line: View<'_>) -> bool
 pub(crate) fn quote_content<'a>(line: &View<'a>) -> Option<View<'a>>
     ensures { (by : all.Rules) → MatchOption result (begins_quote (start_of by (seen_view line.now)) ≡ false)
         (λ inner. (start_of by (seen_view line.now) ≡ QuoteMarker)
-        × (seen_view inner ≡ behind_quote_marker (seen_view line.now))) }
+        × (seen_view inner ≡ after_quote_marker (seen_view line.now))) }
 {
     if line.lazy {
         return None;
@@ -129,23 +129,23 @@ pub(crate) fn reaches_or_is_blank(line: &View<'_>, inner: &View<'_>, column: usi
 }
 
 /// The line after the marker of the item that it starts.
-fn behind_marker<'a>(line: &View<'a>, marker: &ItemMarker) -> View<'a>
+fn after_marker<'a>(line: &View<'a>, marker: &ItemMarker) -> View<'a>
     requires { (by : all.Rules) × (start_of by (seen_view line.now) ≡ ItemStart (seen_marker marker.now)) }
-    ensures { seen_view result ≡ behind_marker (seen_marker marker.now) (seen_view line.now) }
+    ensures { seen_view result ≡ after_marker (seen_marker marker.now) (seen_view line.now) }
 {
     line.strip(line.indent()).past(marker.digits + 1)
 }
 
 /// The columns of space between an item's marker and its content: one to four, or one where there are more
 /// or the rest of the line is blank (5.2 List items).
-fn content_offset(behind: &View<'_>) -> usize
-    ensures value { result ≡ content_offset (seen_view behind.now) }
+fn content_offset(beyond: &View<'_>) -> usize
+    ensures value { result ≡ content_offset (seen_view beyond.now) }
     ensures few { result ≤ 4 }
 {
-    if is_blank(behind) {
+    if is_blank(beyond) {
         return 1;
     }
-    let indent = behind.indent();
+    let indent = beyond.indent();
     if indent > 4 {
         return 1;
     }
@@ -158,8 +158,8 @@ pub(crate) fn item_content<'a>(line: &View<'a>, marker: &ItemMarker) -> (usize, 
     ensures column { result.0 ≡ content_column (seen_marker marker.now) (seen_view line.now) }
     ensures first { seen_view result.1 ≡ first_content (seen_marker marker.now) (seen_view line.now) }
 {
-    let behind = with_columns(&behind_marker(line, marker));
-    let offset = content_offset(&behind);
+    let beyond = with_columns(&after_marker(line, marker));
+    let offset = content_offset(&beyond);
     let column = line.indent() + (marker.digits + 1) + offset;
-    (column, behind.strip(offset))
+    (column, beyond.strip(offset))
 }

@@ -12,7 +12,6 @@ ghost use Rattle.cm_block.specs.steps.LeafBlocks.{block_of};
 ghost use Rattle.cm_block.specs.steps.FirstLines.{first_of, whole_leaf, is_whole, whole_leaves};
 ghost use Rattle.cm_block.specs.steps.FirstLines.{opens_leaf};
 
-use crate::counted_line::LeafStart;
 use crate::counted_line::copies::push_line;
 use crate::counted_line::ends::ends_html;
 use crate::counted_line::starts::{Start, content, strip_four};
@@ -49,7 +48,9 @@ pub(crate) fn put_whole(
     start: &Start<'_>,
     stack: &mut Stack,
     owners: &mut Owners,
+    leaves: &mut usize,
 ) -> Result<bool, RawFault>
+    requires counted { leaves.old ≡ owners.old.leaves }
     ensures put { IfOk result (λ put. put ≡ is_whole (seen start.now)) }
     ensures level { OnOk result (stack.new.level
         ≡ close_leaves stack.old.level (whole_leaves (seen start.now))) }
@@ -58,11 +59,12 @@ pub(crate) fn put_whole(
     ensures owners { OnOk result (owners.new ≡ own_leaves owners.old (whole_leaves (seen start.now))) }
     ensures kept { IfOk result (λ put. put ≡ false → stack.new ≡ stack.old) }
     ensures unowned { IfOk result (λ put. put ≡ false → owners.new ≡ owners.old) }
+    ensures counted { leaves.new ≡ owners.new.leaves }
 {
     let Some(leaf) = whole_leaf(start) else {
         return Ok(false);
     };
-    owners.leaf(1)?;
+    owners.leaf(leaves, 1)?;
     stack.put(&leaf)?;
     Ok(true)
 }
@@ -134,15 +136,14 @@ pub(crate) fn begin_leaf(
     alloc: Global,
     rules: Rules,
     leaf: &mut OpenLeaf,
-    start: &LeafStart<'_>,
+    start: &Start<'_>,
     line: &View<'_>,
 ) -> Result<LeafLine, NoMemory>
     requires { leaf_of leaf.old ≡ no_leaf }
     ensures { IfOk result (λ first. first_of first leaf.new
-        ≡ given (opens_leaf (seen start.now.found))
-        (begin_of_start rules (seen start.now.found) (seen_view line.now))) }
+        ≡ given (opens_leaf (seen start.now)) (begin_of_start rules (seen start.now) (seen_view line.now))) }
 {
-    match &start.found {
+    match start {
         Start::TextLine => begin_run(leaf, line),
         Start::IndentedCode => begin_code(leaf, line),
         Start::Fence(fence) => begin_fence(alloc, rules, leaf, *fence, line),

@@ -21,11 +21,11 @@ fn starts_at_one(kind: ListKind) -> bool
 }
 
 /// Whether only spaces and tabs follow a marker with this number of digits.
-fn is_blank_behind(digits: usize, content: &[u8]) -> bool
+fn is_blank_after(digits: usize, content: &[u8]) -> bool
     ensures { result ≡ is_blank_text (drop (suc digits) content.now) }
 {
     match content.get(digits..) {
-        Some([_, behind @ ..]) => is_blank_text(behind),
+        Some([_, beyond @ ..]) => is_blank_text(beyond),
         _ => true,
     }
 }
@@ -34,7 +34,7 @@ fn is_blank_behind(digits: usize, content: &[u8]) -> bool
 fn item_interrupts(marker: ItemMarker, line: &View<'_>) -> bool
     ensures { result ≡ can_interrupt (seen (Item marker)) (seen_view line.now) }
 {
-    starts_at_one(marker.kind) && !is_blank_behind(marker.digits, content(line).as_bytes())
+    starts_at_one(marker.kind) && !is_blank_after(marker.digits, content(line).as_bytes())
 }
 
 /// Whether an HTML block of this kind can interrupt a paragraph (4.6 HTML blocks).

@@ -12,6 +12,7 @@ ghost use Rattle.cm_block.specs.steps.ContinuationViews.{IsInside, seen_marker};
 ghost use Rattle.cm_block.specs.steps.ContinuationViews.{StartsItem, StartsPlainly};
 
 use crate::counted_line::continuations::{reaches_or_is_blank, with_columns};
+use crate::counted_line::readings::Inside;
 use crate::counted_line::starts::begins_plain;
 use cm_scan::{ItemMarker, bullet_kind, item_marker};
 use cm_text::View;
@@ -113,18 +114,18 @@ pub(super) fn plain_marker(line: &View<'_>) -> Option<(ItemMarker, usize)>
 
 /// An item that a line starts: the kind of its list, the column at which its content starts, and the line as
 /// it enters it.
-#[derive(Clone, Copy)]
-pub(super) struct PlainItem<'a> {
-    pub(super) kind: ListKind,
-    pub(super) column: usize,
-    pub(super) inner: View<'a>,
+#[derive(Drop)]
+pub(crate) struct PlainItem<'a> {
+    pub(crate) kind: ListKind,
+    pub(crate) column: usize,
+    pub(crate) inner: Inside<'a>,
 }
 
 /// The item that a line starts, if that shows by its first bytes.
 #[inline(always)]
 pub(super) fn plain_item<'a>(line: &View<'a>) -> Option<PlainItem<'a>>
     ensures { IfSome result (λ item.
-        StartsItem (seen_view line.now) item.kind item.column (seen_view item.inner)) }
+        StartsItem (seen_view line.now) item.kind item.column (seen_view item.inner.view)) }
 {
     let (marker, end) = plain_marker(line)?;
     // It is UTF-8.
@@ -132,59 +133,8 @@ pub(super) fn plain_item<'a>(line: &View<'a>) -> Option<PlainItem<'a>>
     Some(PlainItem {
         kind: marker.kind,
         column: line.spaces + end + 1,
-        inner: past_spaces(line, line.spaces).past(end + 1),
+        inner: Inside {
+            view: past_spaces(line, line.spaces).past(end + 1),
+        },
     })
-}
-
-/// A line as it enters open items, and how often it has been read there. As with a `CountedLine`, nothing
-/// that shows it leaves this type: each of its calls is one reading, which it counts, and the line is only
-/// returned with the count.
-pub(crate) struct LineInItems<'a> {
-    inner: View<'a>,
-    tests: usize,
-}
-
-impl<'a> LineInItems<'a> {
-    /// A line that hasn't been read here.
-    #[inline(always)]
-    pub(super) fn new(line: &View<'a>) -> LineInItems<'a>
-        ensures line { seen_view result.inner ≡ seen_view line.now }
-        ensures tests { result.tests ≡ 0 }
-    {
-        LineInItems {
-            inner: with_columns(line),
-            tests: 0,
-        }
-    }
-
-    /// The line as it has entered the last of the items, and how often it was read.
-    #[inline(always)]
-    pub(super) fn into_parts(self) -> (View<'a>, usize)
-        ensures line { result.0 ≡ self.entry.inner }
-        ensures tests { result.1 ≡ self.entry.tests }
-    {
-        let LineInItems { inner, tests } = self;
-        (inner, tests)
-    }
-
-    /// Whether the line stays by itself in an open item whose content starts at a column, and if so enters
-    /// it. There is more of the item than its marker (5.2 List items).
-    #[inline(always)]
-    pub(crate) fn stays_in(&mut self, column: usize) -> bool
-        requires plain { self.old.inner.lazy ≡ false }
-        requires few { self.old.tests < 2 ^ 64 - 1 }
-        ensures continuation { (by : all.Rules) → IsInside result
-            (continuation_in_item by column false (seen_view self.old.inner))
-            (continuation_if_lazy by (seen_view self.old.inner)) (seen_view self.new.inner) }
-        ensures same { result ≡ false → self.new.inner ≡ self.old.inner }
-        ensures lazy { self.new.inner.lazy ≡ false }
-        ensures tests { self.new.tests ≡ self.old.tests + 1 }
-    {
-        self.tests += 1;
-        let Some(inner) = inside_item(&self.inner, column) else {
-            return false;
-        };
-        self.inner = inner;
-        true
-    }
 }

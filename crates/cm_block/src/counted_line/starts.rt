@@ -1,12 +1,12 @@
 //! What a line starts: a quote, an item, or a leaf block (CommonMark 0.31.2, chapters 4 and 5).
 ghost use Rattle.std.specs.Prelude.{◌≡◌, ◌==◌, ◌&&◌, false, true, nat_le};
 ghost use Rattle.std.specs.Str.{IsCharBoundary};
-ghost use Rattle.cm_text.specs.TextLines.{is_text_behind};
+ghost use Rattle.cm_text.specs.TextLines.{is_text_after};
 ghost use Rattle.cm_block.specs.Prelude.{indent_of, strip_columns, run_length};
 ghost use Rattle.cm_block.specs.Prelude.{is_line, seen_view, is_at_letter, content_of, given};
 ghost use Rattle.cm_block.specs.Prelude.{◌<|>◌, is_thematic_break, atx_heading, opening_fence};
 ghost use Rattle.cm_block.specs.Prelude.{item_marker, html_start, HtmlStart, BreakLine};
-ghost use Rattle.cm_block.specs.Prelude.{ItemStart, seen_as, or_text, start_of_content, start_of};
+ghost use Rattle.cm_block.specs.Prelude.{ItemStart, option_map, or_text, start_of_content, start_of};
 ghost use Rattle.cm_scan.specs.blocks.Starts as forms;
 ghost use Rattle.cm_block.specs.steps.ContinuationViews.{begins_plain};
 ghost use Rattle.cm_block.specs.steps.StartViews.{seen, begins_break, begins_fence};
@@ -36,7 +36,7 @@ pub(crate) enum Start<'a> {
 pub(crate) fn begins_with_letter(line: &View<'_>) -> bool
     ensures letter { result ≡ ((line.now.spaces == 0) && is_at_letter line.now.rest.now) }
     ensures text { result ≡ true →
-        ((line.now.spaces == 0) && is_text_behind 0 line.now.rest.now) ≡ true }
+        ((line.now.spaces == 0) && is_text_after 0 line.now.rest.now) ≡ true }
 {
     match line.rest.as_bytes() {
         [b, ..] => line.spaces == 0 && b.is_ascii_alphabetic(),
@@ -47,7 +47,7 @@ pub(crate) fn begins_with_letter(line: &View<'_>) -> bool
 /// Whether a line begins as text, without indentation. It is text then, and underlines nothing.
 #[inline(always)]
 pub(crate) fn begins_as_text(line: &View<'_>) -> bool
-    ensures { result ≡ ((line.now.spaces == 0) && is_text_behind 0 line.now.rest.now) }
+    ensures { result ≡ ((line.now.spaces == 0) && is_text_after 0 line.now.rest.now) }
 {
     match line.rest.as_bytes() {
         [b, ..] => line.spaces == 0 && begins_text(*b),
@@ -120,7 +120,7 @@ fn begins_fence(b: u8) -> bool
 
 /// A heading, or text.
 fn heading_or_text(text: &str) -> Start<'_>
-    ensures { seen result ≡ or_text (seen_as forms.AtxHeading (atx_heading text.now)) }
+    ensures { seen result ≡ or_text (option_map forms.AtxHeading (atx_heading text.now)) }
 {
     match atx(text, 0) {
         Some((heading, _)) => Start::Atx(heading),
@@ -130,7 +130,7 @@ fn heading_or_text(text: &str) -> Start<'_>
 
 /// The fence of a code block, or text.
 fn fence_or_text(text: &str) -> Start<'_>
-    ensures { seen result ≡ or_text (seen_as forms.OpeningFence (opening_fence text.now)) }
+    ensures { seen result ≡ or_text (option_map forms.OpeningFence (opening_fence text.now)) }
 {
     match fence(text, 0) {
         Some((fence, _)) => Start::Fence(fence),
@@ -140,7 +140,7 @@ fn fence_or_text(text: &str) -> Start<'_>
 
 /// The start of an HTML block, or text.
 fn html_or_text(rules: Rules, text: &str) -> Start<'_>
-    ensures { seen result ≡ or_text (seen_as HtmlStart (html_start rules text.now)) }
+    ensures { seen result ≡ or_text (option_map HtmlStart (html_start rules text.now)) }
 {
     match html_start_by(rules, text, 0) {
         Some(kind) => Start::Html(kind),
@@ -150,7 +150,7 @@ fn html_or_text(rules: Rules, text: &str) -> Start<'_>
 
 /// The marker of an item, or text.
 fn item_or_text(text: &str) -> Start<'_>
-    ensures { seen result ≡ or_text (seen_as ItemStart (item_marker text.now)) }
+    ensures { seen result ≡ or_text (option_map ItemStart (item_marker text.now)) }
 {
     match item_marker(text, 0) {
         Some((marker, _)) => Start::Item(marker),
@@ -162,7 +162,7 @@ fn item_or_text(text: &str) -> Start<'_>
 fn break_or_item(text: &str) -> Start<'_>
     ensures { seen result
         ≡ or_text (given (is_thematic_break text.now) BreakLine
-        <|> seen_as ItemStart (item_marker text.now)) }
+        <|> option_map ItemStart (item_marker text.now)) }
 {
     if thematic(text, 0).is_some() {
         return Start::Break;
@@ -208,7 +208,7 @@ pub(crate) fn indent_of(line: &View<'_>) -> usize
 
 /// What a line that isn't lazy starts: four columns of indentation make code.
 #[inline(never)]
-fn start_behind_indentation<'a>(rules: Rules, line: &View<'a>) -> Start<'a>
+fn start_after_indentation<'a>(rules: Rules, line: &View<'a>) -> Start<'a>
     requires { line.now.lazy ≡ false }
     ensures { seen result ≡ start_of rules (seen_view line.now) }
 {
@@ -230,5 +230,5 @@ pub(crate) fn start_of<'a>(rules: Rules, line: &View<'a>) -> Start<'a>
     if line.spaces <= 3 && begins_plain(line.rest) {
         return start_of_content(rules, line.rest);
     }
-    start_behind_indentation(rules, line)
+    start_after_indentation(rules, line)
 }

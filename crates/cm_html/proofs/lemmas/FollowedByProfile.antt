@@ -1,5 +1,6 @@
 -- By the profile a tree holds nothing that isn't read: it follows each address and leaves each info as it is.
 use Rattle.std.proofs.Common.{◌≡◌, Bool, true, ◌&&◌, List, [], ◌∷◌, map, ap, refl, subst, ◌∙◌}
+use Rattle.std.specs.List.{list_all}
 use Rattle.cm_tree.specs.declared.tree.Inline.{Inline, Inline-F, map-Inline}
 use Rattle.cm_tree.specs.declared.tree.Inline.TheOpen as inline
 use Rattle.cm_tree.specs.declared.tree.Inline.TheViews.{roll-Inline}
@@ -9,7 +10,7 @@ use Rattle.cm_tree.specs.declared.tree.Block.TheOpen as block
 use Rattle.cm_tree.specs.declared.tree.Block.TheViews.{roll-Block}
 use Rattle.cm_tree.specs.declared.tree.Block.TheFolds.{fold-roll-Block, ind-Block}
 use Rattle.cm_text.specs.Rules.{profile}
-use Rattle.cm_tree.specs.HeadingLevels.{all_of, all_of_items}
+use Rattle.cm_tree.specs.HeadingLevels.{all_of}
 use Rattle.cm_tree.specs.Followed.{followed_inline_step, inline_is_followed, inlines_are_followed, followed_block_step, block_is_followed, blocks_are_followed}
 
 -- inlines, each with its proof
@@ -46,9 +47,9 @@ inside_follows : (es : List Held) → all_of (map (block_is_followed profile) (h
 inside_follows [] = refl
 inside_follows (e ∷ es) = ap (λ t. t && all_of (map (block_is_followed profile) (held es))) e.1 ∙ inside_follows es
 
-items_follow : (items : List (List Held)) → all_of_items (map (map (block_is_followed profile)) (map held items)) ≡ true
+items_follow : (items : List (List Held)) → list_all all_of (map (map (block_is_followed profile)) (map held items)) ≡ true
 items_follow [] = refl
-items_follow (item ∷ items) = ap (λ t. t && all_of_items (map (map (block_is_followed profile)) (map held items))) (inside_follows item) ∙ items_follow items
+items_follow (item ∷ items) = ap (λ t. t && list_all all_of (map (map (block_is_followed profile)) (map held items))) (inside_follows item) ∙ items_follow items
 
 block_layer : (y : Block-F Held) → followed_block_step profile (map-Block Block Bool (block_is_followed profile) (map-Block Held Block (λ e. e.0) y)) ≡ true
 block_layer (block.Paragraph content) = inlines_follow content

@@ -1,10 +1,9 @@
 -- The tags in the HTML of blocks without raw HTML, which hold only what the rules read.
 use Rattle.std.proofs.Common.{◌≡◌, ℕ, zero, suc, ◌==◌, ◌/◌, ◌%◌, ◌<◌, Bool, true, false, ◌&&◌, cond, List, [], ◌∷◌, ◌++◌, codes, map, ap, refl, sym, subst, ◌∙◌, arith}
 use Rattle.std.specs.Prelude.{if◌then◌else◌, nat_le}
-use Rattle.std.specs.List.{list_all}
+use Rattle.std.specs.List.{list_all, list_any}
 use Rattle.std.specs.Char.{is_ascii_digit}
 use Rattle.std.specs.Fmt.{decimal, digits, digits_onto, digit_glyph}
-use Rattle.std.proofs.lemmas.List.{append_assoc}
 use Rattle.std.proofs.lemmas.Bool.{and_parts, or_parts, false≢true, leb-true, agree_below_at}
 use Rattle.cm_tree.specs.declared.tree.Block.{Block, Block-F, map-Block}
 use Rattle.cm_tree.specs.declared.tree.Block.TheOpen as block
@@ -13,15 +12,16 @@ use Rattle.cm_tree.specs.declared.tree.Block.TheFolds.{fold-roll-Block, ind-Bloc
 use Rattle.cm_tree.specs.declared.tree.ListKind.{ListKind}
 use Rattle.cm_tree.specs.declared.tree.ListKind.TheVariants.{Dash, Plus, Star, Dot, Paren}
 use Rattle.cm_html.specs.Escape.{escape, class_word}
-use Rattle.cm_html.specs.Html.{inlines_html, Written, block_step, written, alone, all_alone, shown, line_feed_before, tight_blocks, loose_blocks, inside, item_html, items_html, paragraph_html, heading_html, code_html, code_start, quote_html, ordered_start, list_start, list_end, html_of}
+use Rattle.cm_html.specs.Html.{inlines_html, Written, block_step, written, alone, all_alone, line_feed_if, inside_from, items_html, heading_html, code_html, code_start, ordered_start, list_start, list_end, html_of}
 use Rattle.cm_html.specs.Html.Written.{Nothing, Inlines, Whole}
 use Rattle.cm_text.specs.Rules.{Rules, profile}
 use Rattle.cm_tree.specs.Followed.{is_read_info, followed_block_step, block_is_followed, blocks_are_followed}
-use Rattle.cm_tree.specs.HeadingLevels.{is_level, all_of, all_of_items, level_step, has_levels, have_levels}
+use Rattle.cm_tree.specs.HeadingLevels.{is_level, all_of, level_step, has_levels, have_levels}
 use Rattle.cm_html.specs.Markup.Place.{InText, InValue}
 use Rattle.cm_html.specs.Markup.{is_text, may_stand}
-use Rattle.cm_tree.specs.RawHtml.{any_of, any_of_items, raw_block_step, block_has_raw, blocks_have_raw}
+use Rattle.cm_tree.specs.RawHtml.{any_of, raw_block_step, block_has_raw, blocks_have_raw}
 use Rattle.cm_html.specs.Tags.{Tags, element, tags_of_inlines, code_tag, ordered_tag, list_element, join_blocks, join_items, block_tags, tags_of_block, TextIsNoMarkup, AddressesStay}
+use Rattle.cm_html.specs.steps.HtmlParts.{paragraph_html, quote_html, inside, item_html}
 use Rattle.cm_html.proofs.lemmas.MarkupSteps.{Goes, Balanced, and_then, between_tags, element_balanced, empty_balanced, append_balanced, balanced_whole}
 use Rattle.cm_html.proofs.lemmas.MarkupTexts.{by_byte, stands, escaped, escape_is_text, value_read}
 use Rattle.cm_html.proofs.lemmas.MarkupInlines.{inlines_balanced}
@@ -191,45 +191,29 @@ module _ (rules : Rules) where
   all_alone_balanced (w ∷ ws) [] have = absurd have
   all_alone_balanced (w ∷ ws) (t ∷ ts) have = append_balanced rules (t false) (join_blocks false ts) (alone w) (all_alone ws) (alone_balanced w t have.0) (all_alone_balanced ws ts have.1)
 
-  feed_balanced : (ws : List Written) → Balanced rules (line_feed_before ws) []
-  feed_balanced [] = empty_balanced rules
-  feed_balanced (Nothing ∷ ws) = empty_balanced rules
-  feed_balanced (Inlines html ∷ ws) = empty_balanced rules
-  feed_balanced (Whole html ∷ ws) = λ names rest. refl
+  feed_balanced : (fresh : Bool) → Balanced rules (line_feed_if fresh) []
+  feed_balanced true = λ names rest. refl
+  feed_balanced false = empty_balanced rules
 
-  tight_balanced : (ws : List Written) (ts : List (Bool → Tags)) → HaveTags ws ts → Balanced rules (tight_blocks (shown ws)) (join_blocks true ts)
-  tight_balanced [] [] have = empty_balanced rules
-  tight_balanced [] (t ∷ ts) have = absurd have
-  tight_balanced (w ∷ ws) [] have = absurd have
-  tight_balanced (Nothing ∷ ws) (t ∷ ts) have =
-      subst (λ tags. Balanced rules (tight_blocks (shown ws)) (tags ++ join_blocks true ts)) (sym (have.0 true)) (tight_balanced ws ts have.1)
-  tight_balanced (Inlines html ∷ ws) (t ∷ ts) have =
-      let left : List Written = shown ws in
-      subst (λ bytes. Balanced rules bytes (t true ++ join_blocks true ts)) (sym (append_assoc html (line_feed_before left) (tight_blocks left)))
-      (append_balanced rules (t true) (join_blocks true ts) html (line_feed_before left ++ tight_blocks left) have.0.0
-      (append_balanced rules [] (join_blocks true ts) (line_feed_before left) (tight_blocks left) (feed_balanced left) (tight_balanced ws ts have.1)))
-  tight_balanced (Whole html ∷ ws) (t ∷ ts) have =
-      append_balanced rules (t true) (join_blocks true ts) html (tight_blocks (shown ws)) (have.0 true) (tight_balanced ws ts have.1)
-
-  shown_balanced : (ws : List Written) (ts : List (Bool → Tags)) → HaveTags ws ts → Balanced rules (all_alone (shown ws)) (join_blocks false ts)
-  shown_balanced [] [] have = empty_balanced rules
-  shown_balanced [] (t ∷ ts) have = absurd have
-  shown_balanced (w ∷ ws) [] have = absurd have
-  shown_balanced (Nothing ∷ ws) (t ∷ ts) have =
-      subst (λ tags. Balanced rules (all_alone (shown ws)) (tags ++ join_blocks false ts)) (sym (have.0 false)) (shown_balanced ws ts have.1)
-  shown_balanced (Inlines html ∷ ws) (t ∷ ts) have =
-      append_balanced rules (t false) (join_blocks false ts) (paragraph_html html) (all_alone (shown ws)) (alone_balanced (Inlines html) t have.0) (shown_balanced ws ts have.1)
-  shown_balanced (Whole html ∷ ws) (t ∷ ts) have =
-      append_balanced rules (t false) (join_blocks false ts) html (all_alone (shown ws)) (have.0 false) (shown_balanced ws ts have.1)
-
-  loose_balanced : (ws : List Written) (tags : Tags) → Balanced rules (all_alone ws) tags → Balanced rules (loose_blocks ws) tags
-  loose_balanced [] tags balanced = balanced
-  loose_balanced (w ∷ ws) tags balanced = append_balanced rules [] tags (codes "\n") (all_alone (w ∷ ws)) (λ names rest. refl) balanced
+  from_balanced : (tight fresh : Bool) (ws : List Written) (ts : List (Bool → Tags)) → HaveTags ws ts → Balanced rules (inside_from tight fresh ws) (join_blocks tight ts)
+  from_balanced tight fresh [] [] have = empty_balanced rules
+  from_balanced tight fresh [] (t ∷ ts) have = absurd have
+  from_balanced tight fresh (w ∷ ws) [] have = absurd have
+  from_balanced tight fresh (Nothing ∷ ws) (t ∷ ts) have =
+      subst (λ tags. Balanced rules (inside_from tight fresh ws) (tags ++ join_blocks tight ts)) (sym (have.0 tight)) (from_balanced tight fresh ws ts have.1)
+  from_balanced true fresh (Inlines html ∷ ws) (t ∷ ts) have =
+      append_balanced rules (t true) (join_blocks true ts) html (inside_from true true ws) have.0.0 (from_balanced true true ws ts have.1)
+  from_balanced false fresh (Inlines html ∷ ws) (t ∷ ts) have =
+      append_balanced rules (t false) (join_blocks false ts) (line_feed_if fresh ++ paragraph_html html) (inside_from false false ws)
+      (append_balanced rules [] (t false) (line_feed_if fresh) (paragraph_html html) (feed_balanced fresh) (alone_balanced (Inlines html) t have.0))
+      (from_balanced false false ws ts have.1)
+  from_balanced tight fresh (Whole html ∷ ws) (t ∷ ts) have =
+      append_balanced rules (t tight) (join_blocks tight ts) (line_feed_if fresh ++ html) (inside_from tight false ws)
+      (append_balanced rules [] (t tight) (line_feed_if fresh) html (feed_balanced fresh) (have.0 tight))
+      (from_balanced tight false ws ts have.1)
 
   inside_balanced : (tight : Bool) (ws : List Written) (ts : List (Bool → Tags)) → HaveTags ws ts → Balanced rules (inside tight ws) (join_blocks tight ts)
-  inside_balanced true ws ts have =
-      append_balanced rules [] (join_blocks true ts) (line_feed_before (shown ws)) (tight_blocks (shown ws)) (feed_balanced (shown ws)) (tight_balanced ws ts have)
-  inside_balanced false ws ts have = loose_balanced (shown ws) (join_blocks false ts) (shown_balanced ws ts have)
+  inside_balanced tight ws ts have = from_balanced tight true ws ts have
 
   items_balanced : (tight : Bool) (items : List (List Written)) (ts : List (List (Bool → Tags))) → ItemsHaveTags items ts → Balanced rules (items_html tight items) (join_items tight ts)
   items_balanced tight [] [] have = empty_balanced rules
@@ -263,14 +247,14 @@ module _ (rules : Rules) where
       let follows = and_parts (block_is_followed rules e.0) (all_of (map (block_is_followed rules) (blocks_in es))) follow in
       (e.1 none.0 all.0 follows.0, blocks_have es none.1 all.1 follows.1)
 
-  items_have : (items : List (List Proved)) → any_of_items (map (map block_has_raw) (map blocks_in items)) ≡ false → all_of_items (map (map has_levels) (map blocks_in items)) ≡ true
-      → all_of_items (map (map (block_is_followed rules)) (map blocks_in items)) ≡ true
+  items_have : (items : List (List Proved)) → list_any any_of (map (map block_has_raw) (map blocks_in items)) ≡ false → list_all all_of (map (map has_levels) (map blocks_in items)) ≡ true
+      → list_all all_of (map (map (block_is_followed rules)) (map blocks_in items)) ≡ true
       → ItemsHaveTags (map (map written) (map blocks_in items)) (map (map tags_of_block) (map blocks_in items))
   items_have [] free levels follow = tt
   items_have (item ∷ items) free levels follow =
-      let none = or_parts (any_of (map block_has_raw (blocks_in item))) (any_of_items (map (map block_has_raw) (map blocks_in items))) free in
-      let all = and_parts (all_of (map has_levels (blocks_in item))) (all_of_items (map (map has_levels) (map blocks_in items))) levels in
-      let follows = and_parts (all_of (map (block_is_followed rules) (blocks_in item))) (all_of_items (map (map (block_is_followed rules)) (map blocks_in items))) follow in
+      let none = or_parts (any_of (map block_has_raw (blocks_in item))) (list_any any_of (map (map block_has_raw) (map blocks_in items))) free in
+      let all = and_parts (all_of (map has_levels (blocks_in item))) (list_all all_of (map (map has_levels) (map blocks_in items))) levels in
+      let follows = and_parts (all_of (map (block_is_followed rules) (blocks_in item))) (list_all all_of (map (map (block_is_followed rules)) (map blocks_in items))) follow in
       (blocks_have item none.0 all.0 follows.0, items_have items none.1 all.1 follows.1)
 
   -- one block, from the blocks inside

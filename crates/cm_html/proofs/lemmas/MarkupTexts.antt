@@ -6,7 +6,7 @@ use Rattle.std.proofs.lemmas.Bool.{and_parts, false≢true, eqb-true}
 use Rattle.cm_html.specs.Escape.{escape_byte, escape, destination_html, destination_byte}
 use Rattle.cm_text.specs.Rules.{Rules}
 use Rattle.cm_html.specs.Markup.Place.{InText, InTag, InValue, Refused}
-use Rattle.cm_html.specs.Markup.{Place, tags_from, behind, may_stand, is_text, may_be_value}
+use Rattle.cm_html.specs.Markup.{Place, tags_from, beyond, may_stand, is_text, may_be_value}
 use Rattle.cm_html.proofs.lemmas.MarkupSteps.{Goes, Balanced, and_then, empty_balanced, append_balanced}
 
 -- a byte is one of the four, or none of them
@@ -58,7 +58,7 @@ no_quotation b next stands = decided (b == 34) refl
     decided true e = absurd (false≢true (subst (λ c. may_stand c next ≡ true) (eqb-true b 34 e) stands))
 
 module _ (rules : Rules) where
-  text_stays : (b : ℕ) (next : List ℕ) (names : List (List ℕ)) → (b == 60) ≡ false → may_stand b next ≡ true → behind rules (InText names) b next ≡ InText names
+  text_stays : (b : ℕ) (next : List ℕ) (names : List (List ℕ)) → (b == 60) ≡ false → may_stand b next ≡ true → beyond rules (InText names) b next ≡ InText names
   text_stays b next names n60 fits = λ i. if n60 i then InTag [] names else (if fits i then InText names else Refused)
 
   -- as text

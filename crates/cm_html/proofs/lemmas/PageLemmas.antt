@@ -33,9 +33,9 @@ order_grows from text more grown (i ∷ is) pushed utf8 later order =
     (place_grows text more grown from pushed utf8 later order.0, order.1, order_grows i.place text more grown is pushed utf8 later order.2)
 
 -- one more at the end
-pub order_behind : (from : ℕ) (text : List ℕ) (is : List Insertion) (i : Insertion) → i.place ≡ length text → AreInOrder from text is → AreInOrder from text (is ++ i ∷ [])
-order_behind from text [] i at order = (order, omega (arith, order.0, at), subst (IsCharBoundary text) (sym at) (IsCharBoundary-end text))
-order_behind from text (j ∷ is) i at order = (order.0, order.1, order_behind j.place text is i at order.2)
+pub order_after : (from : ℕ) (text : List ℕ) (is : List Insertion) (i : Insertion) → i.place ≡ length text → AreInOrder from text is → AreInOrder from text (is ++ i ∷ [])
+order_after from text [] i at order = (order, omega (arith, order.0, at), subst (IsCharBoundary text) (sym at) (IsCharBoundary-end text))
+order_after from text (j ∷ is) i at order = (order.0, order.1, order_after j.place text is i at order.2)
 
 -- ---- bytes
 
@@ -45,24 +45,24 @@ slice_same from to text more order within =
     ∙ take-append-le (to - from) (drop from text) more (omega (arith, order, within, length-drop from text))
 
 -- more text after a page
-text_behind : (from : ℕ) (text more : List ℕ) (is : List Insertion) → AreInOrder from text is → with_insertions from (text ++ more) is ≡ with_insertions from text is ++ more
-text_behind from text more [] order = drop-append-le from text more order.0
-text_behind from text more (i ∷ is) order =
-    ap₂ (λ part rest. (part ++ i.text) ++ rest) (slice_same from i.place text more order.1 (first_place i.place text is order.2).0) (text_behind i.place text more is order.2)
+text_after : (from : ℕ) (text more : List ℕ) (is : List Insertion) → AreInOrder from text is → with_insertions from (text ++ more) is ≡ with_insertions from text is ++ more
+text_after from text more [] order = drop-append-le from text more order.0
+text_after from text more (i ∷ is) order =
+    ap₂ (λ part rest. (part ++ i.text) ++ rest) (slice_same from i.place text more order.1 (first_place i.place text is order.2).0) (text_after i.place text more is order.2)
     ∙ sym (append_assoc (slice_range text from i.place ++ i.text) (with_insertions i.place text is) more)
 
 drop_whole : (text : List ℕ) → drop (length text) text ≡ []
 drop_whole text = ap (drop (length text)) (sym (append-nil text)) ∙ drop-append_seam text []
 
 -- one more insertion after a page
-pub insertion_behind : (from : ℕ) (text : List ℕ) (is : List Insertion) (i : Insertion) → i.place ≡ length text → AreInOrder from text is
+pub insertion_after : (from : ℕ) (text : List ℕ) (is : List Insertion) (i : Insertion) → i.place ≡ length text → AreInOrder from text is
     → with_insertions from text (is ++ i ∷ []) ≡ with_insertions from text is ++ i.text
-insertion_behind from text [] i at order =
+insertion_after from text [] i at order =
     ap (λ n. (slice_range text from n ++ i.text) ++ drop n text) at
     ∙ ap₂ (λ part rest. (part ++ i.text) ++ rest) (take_all (length text - from) (drop from text) (omega (arith, length-drop from text))) (drop_whole text)
     ∙ append-nil (drop from text ++ i.text)
-insertion_behind from text (j ∷ is) i at order =
-    ap (λ t. (slice_range text from j.place ++ j.text) ++ t) (insertion_behind j.place text is i at order.2)
+insertion_after from text (j ∷ is) i at order =
+    ap (λ t. (slice_range text from j.place ++ j.text) ++ t) (insertion_after j.place text is i at order.2)
     ∙ sym (append_assoc (slice_range text from j.place ++ j.text) (with_insertions j.place text is) i.text)
 
 -- ---- text is put after a page, unless memory runs out
@@ -71,9 +71,9 @@ module _ {Z : Type 0} (old new : String Z) (more : List ℕ) (is : List Insertio
   in_order : string_bytes new ≡ string_bytes old ++ more → AreInOrder 0 (string_bytes new) is
   in_order pushed = order_grows 0 (string_bytes old) more (string_bytes new) is pushed (IsUtf8-string_bytes old) (IsUtf8-string_bytes new) order
 
-  stands_behind : string_bytes new ≡ string_bytes old ++ more → (seen : List ℕ) → with_insertions 0 (string_bytes old) is ≡ seen
+  stands_after : string_bytes new ≡ string_bytes old ++ more → (seen : List ℕ) → with_insertions 0 (string_bytes old) is ≡ seen
       → with_insertions 0 (string_bytes new) is ≡ seen ++ more
-  stands_behind pushed seen view = ap (λ t. with_insertions 0 t is) pushed ∙ text_behind 0 (string_bytes old) more is order ∙ ap (λ t. t ++ more) view
+  stands_after pushed seen view = ap (λ t. with_insertions 0 t is) pushed ∙ text_after 0 (string_bytes old) more is order ∙ ap (λ t. t ++ more) view
 
   -- by a call that leaves the text as it is then
   module _ {T E : Type 0} where
@@ -81,10 +81,10 @@ module _ {Z : Type 0} (old new : String Z) (more : List ℕ) (is : List Insertio
     pushed_in_order (Ok x) pushed = in_order pushed
     pushed_in_order (Err e) pushed = subst (λ t. AreInOrder 0 t is) (sym pushed) order
 
-    pub pushed_behind : (r : Result T E) → string_bytes new ≡ (if is_ok r then string_bytes old ++ more else string_bytes old)
+    pub pushed_beyond : (r : Result T E) → string_bytes new ≡ (if is_ok r then string_bytes old ++ more else string_bytes old)
         → (seen : List ℕ) → with_insertions 0 (string_bytes old) is ≡ seen → OnOk r (with_insertions 0 (string_bytes new) is ≡ seen ++ more)
-    pushed_behind (Ok x) pushed seen view = stands_behind pushed seen view
-    pushed_behind (Err e) pushed seen view = tt
+    pushed_beyond (Ok x) pushed seen view = stands_after pushed seen view
+    pushed_beyond (Err e) pushed seen view = tt
 
     -- with one that may have added a prefix, after which no insertion stays
     settled_by_case : (r : Result T E) (kept : List Insertion) → OnOk r (string_bytes new ≡ string_bytes old ++ more) → OnOk r (kept ≡ is) → OnErr r (kept ≡ [])
@@ -92,20 +92,20 @@ module _ {Z : Type 0} (old new : String Z) (more : List ℕ) (is : List Insertio
     settled_by_case (Ok x) kept pushed same none = subst (AreInOrder 0 (string_bytes new)) (sym same) (in_order pushed)
     settled_by_case (Err e) kept pushed same none = subst (AreInOrder 0 (string_bytes new)) (sym none) (IsCharBoundary-start (string_bytes new) (IsUtf8-string_bytes new))
 
-    behind_by_case : (r : Result T E) (kept : List Insertion) → OnOk r (string_bytes new ≡ string_bytes old ++ more) → OnOk r (kept ≡ is)
+    after_by_case : (r : Result T E) (kept : List Insertion) → OnOk r (string_bytes new ≡ string_bytes old ++ more) → OnOk r (kept ≡ is)
         → (seen : List ℕ) → with_insertions 0 (string_bytes old) is ≡ seen → OnOk r (with_insertions 0 (string_bytes new) kept ≡ seen ++ more)
-    behind_by_case (Ok x) kept pushed same seen view = ap (with_insertions 0 (string_bytes new)) same ∙ stands_behind pushed seen view
-    behind_by_case (Err e) kept pushed same seen view = tt
+    after_by_case (Ok x) kept pushed same seen view = ap (with_insertions 0 (string_bytes new)) same ∙ stands_after pushed seen view
+    after_by_case (Err e) kept pushed same seen view = tt
 
     pub settled_in_order : (pushed r : Result T E) (kept : List Insertion) → r ≡ pushed → OnOk pushed (string_bytes new ≡ string_bytes old ++ more) → OnOk r (kept ≡ is)
         → OnErr r (kept ≡ []) → AreInOrder 0 (string_bytes new) kept
     settled_in_order pushed r kept handed done same none =
         settled_by_case r kept (subst (λ q. OnOk q (string_bytes new ≡ string_bytes old ++ more)) (sym handed) done) same none
 
-    pub settled_behind : (pushed r : Result T E) (kept : List Insertion) → r ≡ pushed → OnOk pushed (string_bytes new ≡ string_bytes old ++ more) → OnOk r (kept ≡ is)
+    pub settled_beyond : (pushed r : Result T E) (kept : List Insertion) → r ≡ pushed → OnOk pushed (string_bytes new ≡ string_bytes old ++ more) → OnOk r (kept ≡ is)
         → (seen : List ℕ) → with_insertions 0 (string_bytes old) is ≡ seen → OnOk r (with_insertions 0 (string_bytes new) kept ≡ seen ++ more)
-    settled_behind pushed r kept handed done same seen view =
-        behind_by_case r kept (subst (λ q. OnOk q (string_bytes new ≡ string_bytes old ++ more)) (sym handed) done) same seen view
+    settled_beyond pushed r kept handed done same seen view =
+        after_by_case r kept (subst (λ q. OnOk q (string_bytes new ≡ string_bytes old ++ more)) (sym handed) done) same seen view
 
 -- ---- lengths
 

@@ -29,9 +29,9 @@ module _ (a b c : SinkView) (first second : List ℕ) (before : Wrote a b first 
     failed = omega (arith, before.failed, out.failed);
   }
 
-  pub behind : (r : Result ℕ WriteFailed) (written between : ℕ) → between ≡ written + length first → WritesMore r between second b c → WritesMore r written (first ++ second) a c
-  behind (Ok n) written between at out = (whole 0 out.0, omega (arith, at, out.1, length-append first second))
-  behind (Err e) written between at out =
+  pub beyond : (r : Result ℕ WriteFailed) (written between : ℕ) → between ≡ written + length first → WritesMore r between second b c → WritesMore r written (first ++ second) a c
+  beyond (Ok n) written between at out = (whole 0 out.0, omega (arith, at, out.1, length-append first second))
+  beyond (Err e) written between at out =
       (length first + out.0, (front out.0 1 out.1.0, omega (arith, out.1.1, length-append first second)), omega (arith, at, out.2))
 
 -- what is lost of a front is lost of the whole
@@ -85,7 +85,7 @@ module _ (a b : SinkView) (first second : List ℕ) (old mid : Outgoing) (added 
     wrote = whole a b c added.gone next.gone added.wrote 0 next.wrote;
   }
   both (Err e) new c out =
-      subst (λ t. WritesMore (Err e) old.written t a c) joined (behind a b c added.gone (mid.waiting.items ++ second) added.wrote (Err e) old.written mid.written added.counted out)
+      subst (λ t. WritesMore (Err e) old.written t a c) joined (beyond a b c added.gone (mid.waiting.items ++ second) added.wrote (Err e) old.written mid.written added.counted out)
 
   -- what is left doesn't make more bytes than the whole
   pub still_fits : (limit : ℕ) → old.written + length (old.waiting.items ++ (first ++ second)) < limit → mid.written + length (mid.waiting.items ++ second) < limit
@@ -134,7 +134,7 @@ pub finished : (old now : Outgoing) (all : List ℕ) (a b c : SinkView) → old.
     → (r : Result ℕ WriteFailed) → WritesMore r now.written now.waiting.items b c → WritesMore r 0 all a c
 finished old now all a b c waiting written added r out =
     subst (λ t. WritesMore r 0 t a c) (added.parts ∙ ap (λ t. t ++ all) waiting)
-    (behind a b c added.gone now.waiting.items added.wrote r 0 now.written (omega (arith, added.counted, written)) out)
+    (beyond a b c added.gone now.waiting.items added.wrote r 0 now.written (omega (arith, added.counted, written)) out)
 
 -- a text, up to the first byte that is held for a phrase
 pub cut : (f : ℕ → List ℕ) (rest before after shown phrase : List ℕ) (at : ℕ) → flat_map f rest ≡ take at rest ++ (phrase ++ flat_map f (drop (at + 1) rest))

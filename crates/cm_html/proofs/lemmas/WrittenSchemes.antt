@@ -2,17 +2,18 @@
 use Rattle.std.proofs.Common.{◌≡◌, ℕ, ◌<◌, ◌==◌, Bool, true, false, not, ◌&&◌, ◌||◌, Option, Some, None, List, [], ◌∷◌, ◌++◌, codes, map, ap, refl, sym, subst, ◌∙◌, arith}
 use Rattle.std.specs.Prelude.{flat_map, if◌then◌else◌, ◌/◌, ◌%◌}
 use Rattle.std.specs.List.{list_all}
+use Rattle.std.specs.Option.{option_map, option_map_or}
 use Rattle.std.proofs.lemmas.Bool.{agree_below, agree_below_at, and_parts, eqb-true, false≢true}
 use Rattle.std.proofs.lemmas.Bool.Decides.{nat_tests}
 use Rattle.std.proofs.lemmas.Grind.{flat_map-append}
 use Rattle.std.specs.Str.{bytes_eq}
 use Rattle.std.specs.Fmt.{digit_glyph}
-use Rattle.cm_text.specs.Characters.{within}
 use Rattle.cm_html.proofs.lemmas.MarkupTexts.{by_byte, plain_byte}
 use Rattle.percent_encoding.specs.Percent.{percent_encode_byte}
 use Rattle.std.specs.Char.{to_ascii_lowercase}
+use Rattle.std.specs.Int.{is_in_range}
 use Rattle.cm_text.specs.Rules.{Rules}
-use Rattle.cm_text.specs.Addresses.{begins_a_part, onto_scheme, address_scheme, is_web_scheme, is_web, is_web_address, is_followed}
+use Rattle.cm_text.specs.Addresses.{begins_a_part, address_scheme, is_web_scheme, is_web_address, is_followed}
 use Rattle.cm_html.specs.Escape.{escape_byte, escape, is_kept, destination_byte, destination_html}
 
 -- a byte as it is written
@@ -26,17 +27,17 @@ stays b = not (b == 58) && not (begins_a_part b)
 -- before a scheme
 abbrev onto : List ℕ → Option (List ℕ) → Option (List ℕ)
 onto [] scheme = scheme
-onto (b ∷ bs) scheme = onto_scheme b (onto bs scheme)
+onto (b ∷ bs) scheme = option_map (λ s. b ∷ s) (onto bs scheme)
 
 scheme-on : (xs rest : List ℕ) → list_all stays xs ≡ true → address_scheme (xs ++ rest) ≡ onto xs (address_scheme rest)
 unfolding address_scheme
 scheme-on [] rest h = refl
 scheme-on (b ∷ bs) rest h =
     let parts = and_parts (stays b) (list_all stays bs) h in
-    go (b == 58) (begins_a_part b) parts.0 ∙ ap (onto_scheme b) (scheme-on bs rest parts.1)
+    go (b == 58) (begins_a_part b) parts.0 ∙ ap (option_map (λ s. b ∷ s)) (scheme-on bs rest parts.1)
   where
     go : (s t : Bool) → (not s && not t) ≡ true
-        → elim s as (λ _. Option (List ℕ)) [ true ↦ Some [] | false ↦ elim t as (λ _. Option (List ℕ)) [ true ↦ None | false ↦ onto_scheme b (address_scheme (bs ++ rest)) ] ] ≡ onto_scheme b (address_scheme (bs ++ rest))
+        → (if s then Some [] else if t then None else option_map (λ s. b ∷ s) (address_scheme (bs ++ rest))) ≡ option_map (λ s. b ∷ s) (address_scheme (bs ++ rest))
     go true t e = absurd (false≢true e)
     go false true e = absurd (false≢true e)
     go false false e = refl
@@ -79,13 +80,13 @@ in-front b bs = flat_map-append escape_byte (destination_byte b) (flat_map desti
 
 onto-none : (xs : List ℕ) → onto xs None ≡ None
 onto-none [] = refl
-onto-none (x ∷ xs) = ap (onto_scheme x) (onto-none xs)
+onto-none (x ∷ xs) = ap (option_map (λ s. x ∷ s)) (onto-none xs)
 
 onto-some : (xs scheme : List ℕ) → onto xs (Some scheme) ≡ Some (xs ++ scheme)
 onto-some [] scheme = refl
-onto-some (x ∷ xs) scheme = ap (onto_scheme x) (onto-some xs scheme)
+onto-some (x ∷ xs) scheme = ap (option_map (λ s. x ∷ s)) (onto-some xs scheme)
 
-onto-written : (b : ℕ) (o : Option (List ℕ)) → onto (written b) (written_of o) ≡ written_of (onto_scheme b o)
+onto-written : (b : ℕ) (o : Option (List ℕ)) → onto (written b) (written_of o) ≡ written_of (option_map (λ s. b ∷ s) o)
 onto-written b None = onto-none (written b)
 onto-written b (Some scheme) = onto-some (written b) (destination_html scheme) ∙ ap Some (sym (in-front b scheme))
 
@@ -100,7 +101,7 @@ scheme-written (b ∷ bs) = at-58 (scheme-written bs) (b == 58) refl
     ends : (c : ℕ) → address_scheme (written c ++ destination_html bs) ≡ written_of (address_scheme (c ∷ bs)) → abbrev-goal c
     ends c e = ap address_scheme (in-front c bs) ∙ e
 
-    stayed : (c : ℕ) → (c == 58) ≡ false → begins_a_part c ≡ false → address_scheme (c ∷ bs) ≡ onto_scheme c (address_scheme bs)
+    stayed : (c : ℕ) → (c == 58) ≡ false → begins_a_part c ≡ false → address_scheme (c ∷ bs) ≡ option_map (λ s. c ∷ s) (address_scheme bs)
     stayed c n m = grind (arith, n, m)
 
     stays-on : (n : Bool) (m : Bool) → n ≡ false → m ≡ false → (not n && not m) ≡ true
@@ -143,7 +144,7 @@ scheme-written (b ∷ bs) = at-58 (scheme-written bs) (b == 58) refl
 -- a scheme of the web is written unchanged
 
 abbrev is_letter : ℕ → Bool
-is_letter b = within 65 90 b || within 97 122 b
+is_letter b = is_in_range 65 90 b || is_in_range 97 122 b
 
 letters-kept : agree_below (λ b. not (is_letter b) || is_kept b) (λ b. true) 123 ≡ true
 unfolding is_kept
@@ -171,7 +172,7 @@ letters-stand (b ∷ bs) h =
     in-front b bs ∙ ap (λ xs. xs ++ destination_html bs) (letter-written b parts.0) ∙ ap (λ xs. b ∷ xs) (letters-stand bs parts.1)
 
 abbrev is_small : ℕ → Bool
-is_small b = within 97 122 b
+is_small b = is_in_range 97 122 b
 
 small-letter : (b c : ℕ) → (to_ascii_lowercase b == c) ≡ true → is_small c ≡ true → is_letter b ≡ true
 small-letter b c e h = grind (arith, nat_tests, e, h)
@@ -194,12 +195,12 @@ web-letters s h = go (bytes_eq (map to_ascii_lowercase s) (codes "http")) (bytes
     go false false true e f g h = lower-letters s (codes "mailto") g refl
     go false false false e f g h = absurd (false≢true h)
 
-scheme-of : (o : Option (List ℕ)) → is_web o ≡ true → is_web (written_of o) ≡ true
+scheme-of : (o : Option (List ℕ)) → option_map_or is_web_scheme o true ≡ true → option_map_or is_web_scheme (written_of o) true ≡ true
 scheme-of None h = refl
 scheme-of (Some scheme) h = subst (λ s. is_web_scheme s ≡ true) (sym (letters-stand scheme (web-letters scheme h))) h
 
 written_as_web : (address : List ℕ) → is_web_address address ≡ true → is_web_address (destination_html address) ≡ true
-written_as_web address h = ap is_web (scheme-written address) ∙ scheme-of (address_scheme address) h
+written_as_web address h = ap (λ scheme. option_map_or is_web_scheme scheme true) (scheme-written address) ∙ scheme-of (address_scheme address) h
 
 -- an address that the rules follow is one as it is written
 pub written_is_followed : (rules : Rules) (address : List ℕ) → is_followed rules address ≡ true → is_followed rules (destination_html address) ≡ true

@@ -7,7 +7,7 @@ use Rattle.cm_html.specs.Escape.{is_kept}
 abbrev pub is_escaped : ℕ → Bool
 is_escaped b = b == 38 || b == 60 || b == 62 || b == 34
 
--- what HTML doesn't have of a destination as it is: what this doesn't keep, and `&`
+-- what is written differently in the HTML of a destination: what this doesn't keep, and `&`
 unfoldable pub is_changed : ℕ → Bool
 is_changed b = not (is_kept b) || b == 38
 

@@ -2,7 +2,7 @@
 use Rattle.std.proofs.Common.{◌≡◌, ℕ, zero, suc, ◌+◌, ◌≤◌, ◌<◌, ◌^◌, ◌==◌, nat_lt, Bool, true, false, cond, ◌&&◌, not, List, [], ◌∷◌, ◌++◌, length, length-drop, take, drop, codes, map, refl, ap, ap₂, sym, subst, ◌∙◌, arith}
 use Rattle.std.proofs.lemmas.Fmt.{decimal_is_IsNumeral}
 use Rattle.std.specs.Str.Parse.{digits_value}
-use Rattle.std.specs.List.{position_or_len}
+use Rattle.std.specs.List.{position_or_len, list_all}
 use Rattle.cm_text.specs.Characters.{is_space_or_tab}
 use Rattle.json.specs.Json.{Json, boolean, number, string, array, object, Items, no_items, item, Members, no_members, member}
 use Rattle.cm_tree.specs.declared.tree.ListKind.{ListKind}
@@ -11,23 +11,27 @@ use Rattle.cm_tree.specs.declared.tree.Block.{Block, Block-F, map-Block}
 use Rattle.cm_tree.specs.declared.tree.Block.TheOpen as block
 use Rattle.cm_tree.specs.declared.tree.Block.TheVariants.{Paragraph, Heading, Code, Html, Break, Definition, Quote, List as ListBlock}
 use Rattle.cm_tree.specs.declared.tree.Owner.{Owner}
-use Rattle.cm_json.specs.Mdast.{optional, count, lines, final_newline, info_member, ends_in_line_feed, is_plain_info, without_line_feed, language, meta, skip_spaces, starts_without_space, order}
+use Rattle.cm_json.specs.Mdast.{optional, count, lines, final_newline, info_member, ends_in_line_feed, is_plain_info, without_line_feed, language, meta, skip_spaces, starts_without_space, order, block_step}
 use Rattle.json.specs.Tree.{HasNumbers, ItemsHaveNumbers, MembersHaveNumbers}
 use Rattle.cm_tree.specs.declared.tree.Owner.TheVariants.{Leaf, Marker, Blank}
 use Rattle.cm_json.specs.Mdast.{leaf, leaf_start, leaf_end, run_length, has_leaf, is_not_of}
 use Rattle.std.proofs.lemmas.Bool.{ltb-true}
 use Rattle.json.proofs.Printed.Decimals.{IsNumber-decimal}
-use Rattle.cm_tree.specs.HeadingLevels.{all_of, all_of_items}
+use Rattle.cm_tree.specs.HeadingLevels.{all_of}
 use Rattle.cm_tree.specs.declared.tree.Block.TheVariants.{outs-Paragraph, outs-Heading, outs-Code, outs-Html, outs-Break, outs-Definition, outs-Quote, outs-List}
 use Rattle.cm_tree.specs.declared.tree.Block.TheViews.{roll-Block}
 use Rattle.cm_tree.specs.declared.tree.Block.TheFolds.{fold-Block, ind-Block, fold_out-Block}
 use Rattle.cm_scan.specs.laws.PartLaws.{leaves_step, total, total_of_all}
-use Rattle.cm_json.specs.Mdast.{Placed, placed, all_placed, list_item, node, children, spread_member, resource, valued, inline_nodes}
+use Rattle.cm_json.specs.Mdast.{Placed, placed, all_placed, list_item, node, children, spread_member, resource, valued, inline_nodes, raw_label}
 use Rattle.cm_json.specs.SameDocuments.{is_start_in_range, range_step, is_in_range}
-use Rattle.cm_json.proofs.lemmas.BlockKinds.{paragraph-placed, heading-placed, code-placed, html-placed, break-placed, definition-placed, quote-placed, list-placed}
-use Rattle.cm_json.proofs.lemmas.Numbers.{leaf-numbers, list-numbers, optional-numbers, inlines-numbers, info-numbers, final_newline-numbers}
+use Rattle.cm_json.proofs.lemmas.Numbers.{leaf-numbers, list-numbers, optional-numbers, inlines-numbers, info-numbers, label-numbers, final_newline-numbers}
+use Rattle.std.specs.Str.{bytes_eq}
+use Rattle.std.proofs.lemmas.Slice.Eq.{bytes_eq-Decides}
+use Rattle.cm_text.specs.Labels.{fold_label}
+use Rattle.cm_text.specs.Unescaping.{unescape}
 use Rattle.cm_json.proofs.lemmas.OwnersBack.{runs, run_end}
 use Rattle.cm_json.proofs.lemmas.InlinesBack.{optional_back, optional-back, first, inlines_back, inlines-back}
+use Rattle.cm_tree.proofs.lemmas.BlockFolds as block_fold
 
 -- ---- what a node is of
 
@@ -47,6 +51,11 @@ abbrev info_back : List ℕ → List ℕ → Members → List ℕ
 info_back lang meta (member k (string info) more) = info
 info_back lang meta _ = joined lang meta
 
+-- by what `data` has of the label
+abbrev label_back : Members → List ℕ → List ℕ
+label_back (member k (string raw) more) label = raw
+label_back _ label = label
+
 abbrev ended_back : Members → Bool
 ended_back no_members = true
 ended_back (member k (boolean b) more) = b
@@ -64,7 +73,7 @@ abbrev mutual
   block_back (object (member a t (member b told (member c level (member d (array js) no_members))))) = Heading (count_back level) (inlines_back js)
   block_back (object (member a t (member b (object (member c ls told)) (member d lang (member e meta (member f (string value) no_members)))))) =
       Code (info_back (optional_back lang) (optional_back meta) told) (value_back (ended_back told) value)
-  block_back (object (member a t (member b told (member c (string id) (member d (string label) (member e (string dest) (member f title no_members))))))) = Definition label dest (optional_back title)
+  block_back (object (member a t (member b (object (member c ls told)) (member d (string id) (member e (string label) (member f (string dest) (member g title no_members))))))) = Definition (label_back told label) dest (optional_back title)
   block_back (object (member a t (member b (object (member m (string marker) no_members)) (member c (boolean ordered) (member d start (member e (boolean spread) (member f (array js) no_members))))))) =
       ListBlock (kind_back (first marker) start) (not spread) (items_back js)
   block_back _ = Break
@@ -173,6 +182,12 @@ joined-back (b ∷ bs) plain = elim (is_space_or_tab b) as (λ t. is_space_or_ta
       ap₂ joined (language-next b bs e) (meta-next b bs e)
       ∙ joined-next b (language bs) (meta bs)
       ∙ ap (λ t. b ∷ t) (joined-back bs (sym (ap (λ t. cond t (b == 32 && starts_without_space bs) (is_plain_info bs)) e) ∙ plain))
+] refl
+
+label-back : (label : List ℕ) → label_back (raw_label label) (unescape label) ≡ label
+label-back label = elim (bytes_eq (unescape label) label) as (λ b. bytes_eq (unescape label) label ≡ b → label_back (cond b no_members (member (codes "label") (string label) no_members)) (unescape label) ≡ label) [
+  | true ↦ λ e. (bytes_eq-Decides (unescape label) label).0 e
+  | false ↦ λ e. refl
 ] refl
 
 newline-joined : (lang meta text : List ℕ) → info_back lang meta (final_newline text) ≡ joined lang meta
@@ -311,11 +326,11 @@ module _ (owners : List Owner) (small : length owners < 2 ^ 63) where
         within = rest.within;
       }
 
-  items-found : (spread : Bool) (ess : List (List Proved)) → all_of_items (map (map is_in_range) (map those ess)) ≡ true → (passed : ℕ) → passed ≤ length owners
+  items-found : (spread : Bool) (ess : List (List Proved)) → list_all all_of (map (map is_in_range) (map those ess)) ≡ true → (passed : ℕ) → passed ≤ length owners
       → ItemsFound owners (total_of_all (map (map leaves_of) (map those ess))) (map those ess) (all_placed (map (list_item spread) (map (map (placed owners)) (map those ess))) passed) passed
   items-found spread [] fit passed within = record { back = refl; have = tt; lines = refl; ends = refl; within = within }
   items-found spread (es ∷ ess) fit passed within =
-      let (here, more) = both-true (all_of (map is_in_range (those es))) (all_of_items (map (map is_in_range) (map those ess))) fit in
+      let (here, more) = both-true (all_of (map is_in_range (those es))) (list_all all_of (map (map is_in_range) (map those ess))) fit in
       let one = blocks-found es here passed within in
       let mid = (all_placed (map (placed owners) (those es)) passed).1 in
       let rest = items-found spread ess more mid one.within in
@@ -359,16 +374,16 @@ not-not false = refl
 layer : (y : Block-F Proved) → ComesBack (roll-Block (map-Block Proved Block (λ e. e.0) y))
 unfolding roll-Block denote.Hole.Carrier.roll
 layer (block.Paragraph content) =
-    known (Paragraph content) true 1 _ (simp (fold_out-Block Bool range_step, outs-Paragraph)) (simp (fold_out-Block ℕ leaves_step, outs-Paragraph)) (λ owners. paragraph-placed owners content)
+    known (Paragraph content) true 1 _ (simp (fold_out-Block Bool range_step, outs-Paragraph)) (simp (fold_out-Block ℕ leaves_step, outs-Paragraph)) (λ owners. block_fold.paragraph (block_step owners) content)
     (λ fit owners small passed within. leaf-found owners small passed within (Paragraph content) (codes "paragraph") no_members (children (inline_nodes false content)) (ap Paragraph (inlines-back content)) tt (inlines-numbers content, tt))
 layer (block.Heading level content) =
-    known (Heading level content) (nat_lt level (2 ^ 8)) 1 _ (simp (fold_out-Block Bool range_step, outs-Heading)) (simp (fold_out-Block ℕ leaves_step, outs-Heading)) (λ owners. heading-placed owners level content)
+    known (Heading level content) (nat_lt level (2 ^ 8)) 1 _ (simp (fold_out-Block Bool range_step, outs-Heading)) (simp (fold_out-Block ℕ leaves_step, outs-Heading)) (λ owners. block_fold.heading (block_step owners) level content)
     (λ fit owners small passed within.
     let low : level < 2 ^ 64 = omega (arith, ltb-true level (2 ^ 8) fit) in
     leaf-found owners small passed within (Heading level content) (codes "heading") no_members (member (codes "depth") (count level) (children (inline_nodes false content)))
     (ap₂ Heading (count-back level low) (inlines-back content)) tt (IsNumber-decimal level low, (inlines-numbers content, tt)))
 layer (block.Code info text) =
-    known (Code info text) true 1 _ (simp (fold_out-Block Bool range_step, outs-Code)) (simp (fold_out-Block ℕ leaves_step, outs-Code)) (λ owners. code-placed owners info text)
+    known (Code info text) true 1 _ (simp (fold_out-Block Bool range_step, outs-Code)) (simp (fold_out-Block ℕ leaves_step, outs-Code)) (λ owners. block_fold.code (block_step owners) info text)
     (λ fit owners small passed within.
     let told = info_member info (final_newline text) in
     leaf-found owners small passed within (Code info text) (codes "code") told
@@ -377,27 +392,28 @@ layer (block.Code info text) =
     ∙ ap₂ Code (info-back info text) (ap (λ b. value_back b (without_line_feed text)) (ended-info info (final_newline text)) ∙ value-back text))
     (info-numbers info (final_newline text) (final_newline-numbers text)) (optional-numbers (language info), (optional-numbers (meta info), (tt, tt))))
 layer (block.Html text) =
-    known (Html text) true 1 _ (simp (fold_out-Block Bool range_step, outs-Html)) (simp (fold_out-Block ℕ leaves_step, outs-Html)) (λ owners. html-placed owners text)
+    known (Html text) true 1 _ (simp (fold_out-Block Bool range_step, outs-Html)) (simp (fold_out-Block ℕ leaves_step, outs-Html)) (λ owners. block_fold.html (block_step owners) text)
     (λ fit owners small passed within. leaf-found owners small passed within (Html text) (codes "html") (final_newline text) (valued (without_line_feed text)) (ap Html (value-back text)) (final_newline-numbers text) (tt, tt))
 layer block.Break =
-    known Break true 1 _ (simp (fold_out-Block Bool range_step, outs-Break)) (simp (fold_out-Block ℕ leaves_step, outs-Break)) (λ owners. break-placed owners)
+    known Break true 1 _ (simp (fold_out-Block Bool range_step, outs-Break)) (simp (fold_out-Block ℕ leaves_step, outs-Break)) (λ owners. (block_fold.thematic_break (block_step owners)))
     (λ fit owners small passed within. leaf-found owners small passed within Break (codes "thematicBreak") no_members no_members refl tt tt)
 layer (block.Definition label dest title) =
-    known (Definition label dest title) true 1 _ (simp (fold_out-Block Bool range_step, outs-Definition)) (simp (fold_out-Block ℕ leaves_step, outs-Definition)) (λ owners. definition-placed owners label dest title)
+    known (Definition label dest title) true 1 _ (simp (fold_out-Block Bool range_step, outs-Definition)) (simp (fold_out-Block ℕ leaves_step, outs-Definition)) (λ owners. block_fold.definition (block_step owners) label dest title)
     (λ fit owners small passed within.
-    leaf-found owners small passed within (Definition label dest title) (codes "definition") no_members
-    (member (codes "identifier") (string label) (member (codes "label") (string label) (resource dest title no_members))) (ap (Definition label dest) (optional-back title)) tt
+    leaf-found owners small passed within (Definition label dest title) (codes "definition") (raw_label label)
+    (member (codes "identifier") (string (fold_label label)) (member (codes "label") (string (unescape label)) (resource dest title no_members)))
+    (ap₂ (λ l t. Definition l dest t) (label-back label) (optional-back title)) (label-numbers label)
     (tt, (tt, (tt, (optional-numbers title, tt)))))
 layer (block.Quote es) =
-    known (Quote (those es)) (all_of (map is_in_range (those es))) (total (map leaves_of (those es))) _ (simp (fold_out-Block Bool range_step, outs-Quote)) (simp (fold_out-Block ℕ leaves_step, outs-Quote)) (λ owners. quote-placed owners (those es))
+    known (Quote (those es)) (all_of (map is_in_range (those es))) (total (map leaves_of (those es))) _ (simp (fold_out-Block Bool range_step, outs-Quote)) (simp (fold_out-Block ℕ leaves_step, outs-Quote)) (λ owners. block_fold.quote (block_step owners) (those es))
     (λ fit owners small passed within.
     let found = blocks-found owners small es fit passed within in
     record { back = ap Quote found.back; have = (tt, (found.have, tt)); lines = found.lines; ends = found.ends; within = found.within })
 layer (block.List kind tight ess) =
-    known (ListBlock kind tight (map those ess)) (is_start_in_range kind && all_of_items (map (map is_in_range) (map those ess))) (total_of_all (map (map leaves_of) (map those ess))) _
-    (simp (fold_out-Block Bool range_step, outs-List)) (simp (fold_out-Block ℕ leaves_step, outs-List)) (λ owners. list-placed owners kind tight (map those ess))
+    known (ListBlock kind tight (map those ess)) (is_start_in_range kind && list_all all_of (map (map is_in_range) (map those ess))) (total_of_all (map (map leaves_of) (map those ess))) _
+    (simp (fold_out-Block Bool range_step, outs-List)) (simp (fold_out-Block ℕ leaves_step, outs-List)) (λ owners. block_fold.list (block_step owners) kind tight (map those ess))
     (λ fit owners small passed within.
-    let (start, more) = both-true (is_start_in_range kind) (all_of_items (map (map is_in_range) (map those ess))) fit in
+    let (start, more) = both-true (is_start_in_range kind) (list_all all_of (map (map is_in_range) (map those ess))) fit in
     let found = items-found owners small (not tight) ess more passed within in
     let nodes = (all_placed (map (list_item (not tight)) (map (map (placed owners)) (map those ess))) passed).0 in
     record {

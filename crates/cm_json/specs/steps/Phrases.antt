@@ -5,9 +5,9 @@ use Rattle.std.specs.Prelude.{ℕ, Bool, nat_lt, cond, List, [], ◌∷◌, code
 abbrev pub phrases : List (List ℕ)
 phrases =
     (0 ∷ [])
-    ∷ codes "{\"type\":\"text\",\"value\":"
+    ∷ codes "{\"type\":\"text\",\"value\":\""
     ∷ codes ",\"value\":"
-    ∷ codes "{\"type\":\"text\",\"value\":\"\\n\"}"
+    ∷ codes "\"},"
     ∷ codes "{\"type\":\"break\"}"
     ∷ codes "{\"type\":\"emphasis\",\"children\":["
     ∷ codes "{\"type\":\"strong\",\"children\":["

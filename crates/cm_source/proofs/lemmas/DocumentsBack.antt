@@ -22,16 +22,18 @@ use Rattle.cm_source.specs.ReadingBack.{sourced, all_sourced, TreesReadBack}
 use Rattle.cm_source.specs.Refusals.{IsSpellable, BlockFace, refusal_of_all, refusal_of_items, list_reasons, judged_block}
 use Rattle.cm_source.specs.Spelling.{spelling_of}
 use Rattle.cm_source.specs.steps.Utf8Inlines.{AreTexts, all_of}
-use Rattle.cm_source.specs.steps.Utf8Blocks.{has_texts}
+use Rattle.cm_source.specs.steps.Utf8Blocks.{has_texts, utf8_step}
 use Rattle.cm_source.proofs.lemmas.shared.AcceptedLemmas.{or-none}
 use Rattle.cm_source.proofs.lemmas.shared.BlockInduction.{AllHold, ItemsHold, Cases, all-by-cases}
 use Rattle.cm_source.proofs.lemmas.refusals.BlockRefusals.{seen_items}
-use Rattle.cm_source.proofs.lemmas.shared.BlockKinds.{paragraph-judged, heading-judged, quote-judged, list-judged, refused-as, paragraph-texts, heading-texts, quote-texts, list-texts}
+use Rattle.cm_source.proofs.lemmas.shared.Alike.{refused-as}
 use Rattle.cm_source.proofs.lemmas.sources.ContentEnds.{content-ends}
 use Rattle.cm_source.proofs.lemmas.ContentsBack.{paragraph-back, heading-back}
 use Rattle.cm_source.proofs.lemmas.fitting.TreesAreUtf8.{spellings_have_texts}
 use Rattle.cm_source.proofs.lemmas.BlocksBack.{blocks_read_back, spelling_is_text}
 use Rattle.cm_source.proofs.lemmas.shared.Computing.{read_block, sourced_block}
+use Rattle.cm_tree.proofs.lemmas.BlockFolds as block_fold
+use Rattle.cm_source.specs.Refusals as refusals
 
 module _ (rules : Rules) (defined : Defined) where
   -- a source that isn't empty is read
@@ -72,20 +74,20 @@ module _ (rules : Rules) (defined : Defined) where
   cases : Cases ReadsBack
   cases = record {
     paragraph = λ content texts before e.
-        let accepted = or-none (refused ((not (list_any (λ i. true) content), why.Shape) ∷ [])) (paragraph_refusal rules content) (refused-as (paragraph-judged rules content) before e) in
-        simp (sourced_block, read_block, outs-Paragraph) (ap Paragraph (paragraph-read content (sym (paragraph-texts content) ∙ texts) accepted.1));
+        let accepted = or-none (refused ((not (list_any (λ i. true) content), why.Shape) ∷ [])) (paragraph_refusal rules content) (refused-as (block_fold.paragraph (refusals.block_step rules) content) before e) in
+        simp (sourced_block, read_block, outs-Paragraph) (ap Paragraph (paragraph-read content (sym (block_fold.paragraph utf8_step content) ∙ texts) accepted.1));
     heading = λ level content texts before e.
-        let accepted = or-none (refused ((not (nat_le 1 level && nat_le level 6), why.Shape) ∷ [])) (heading_refusal rules content) (refused-as (heading-judged rules level content) before e) in
-        simp (sourced_block, read_block, outs-Heading) (ap (Heading level) (heading-read content (sym (heading-texts level content) ∙ texts) accepted.1));
+        let accepted = or-none (refused ((not (nat_le 1 level && nat_le level 6), why.Shape) ∷ [])) (heading_refusal rules content) (refused-as (block_fold.heading (refusals.block_step rules) level content) before e) in
+        simp (sourced_block, read_block, outs-Heading) (ap (Heading level) (heading-read content (sym (block_fold.heading utf8_step level content) ∙ texts) accepted.1));
     code = λ info text texts before e. simp (sourced_block, read_block, outs-Code);
     html = λ text texts before e. simp (sourced_block, read_block, outs-Html);
     thematic_break = λ texts before e. simp (sourced_block, read_block, outs-Break);
     definition = λ label dest title texts before e. simp (sourced_block, read_block, outs-Definition);
     quote = λ blocks hold texts before e.
-        simp (sourced_block, read_block, outs-Quote) (ap Quote (all-back blocks hold (sym (quote-texts blocks) ∙ texts) None (refused-as (quote-judged rules blocks) before e)));
+        simp (sourced_block, read_block, outs-Quote) (ap Quote (all-back blocks hold (sym (block_fold.quote utf8_step blocks) ∙ texts) None (refused-as (block_fold.quote (refusals.block_step rules) blocks) before e)));
     list = λ kind tight items hold texts before e.
-        let accepted = or-none (refused (list_reasons kind tight (seen_items rules items) before)) (refusal_of_items (map (map (judged_block rules)) items)) (refused-as (list-judged rules kind tight items) before e) in
-        simp (sourced_block, read_block, outs-List) (ap (ListBlock kind tight) (items-back items hold (sym (list-texts kind tight items) ∙ texts) accepted.1));
+        let accepted = or-none (refused (list_reasons kind tight (seen_items rules items) before)) (refusal_of_items (map (map (judged_block rules)) items)) (refused-as (block_fold.list (refusals.block_step rules) kind tight items) before e) in
+        simp (sourced_block, read_block, outs-List) (ap (ListBlock kind tight) (items-back items hold (sym (block_fold.list utf8_step kind tight items) ∙ texts) accepted.1));
   }
 
 pub trees_read_back : TreesReadBack

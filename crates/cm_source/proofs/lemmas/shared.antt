@@ -1,5 +1,4 @@
-pub mod InlineKinds
-pub mod BlockKinds
+pub mod Alike
 pub mod InlineInduction
 pub mod BlockInduction
 pub mod ByteSpellings

@@ -1,6 +1,6 @@
 -- The blocks of a tree as a sequence, in which each block is followed by the rest. It is a step of the proof that blocks
 -- read back: nobody has to believe it.
-use Rattle.std.specs.Prelude.{ℕ, Bool, true, false, not, ◌&&◌, ◌||◌, List, [], ◌∷◌, ◌++◌, map, codes}
+use Rattle.std.specs.Prelude.{ℕ, Bool, true, false, not, ◌&&◌, ◌||◌, List, [], ◌∷◌, ◌++◌, map}
 use Rattle.cm_tree.specs.declared.tree.Block.{Block, Block-F}
 use Rattle.cm_tree.specs.declared.tree.Block.TheOpen as block
 use Rattle.cm_tree.specs.declared.tree.Block.TheVariants.{Quote, List as ListBlock}
@@ -10,7 +10,7 @@ use Rattle.cm_scan.specs.blocks.LineForms.{is_same_kind}
 use Rattle.cm_scan.specs.blocks.Parts.{LeafPart, paragraph, heading, code, html, thematic_break, definition, leaf_block}
 use Rattle.cm_scan.specs.blocks.Starts.{starts_at_one}
 use Rattle.cm_source.specs.Inlines.{spelled_content}
-use Rattle.cm_source.specs.Spelling.{parted_lines, ended_lines, heading_lines, code_lines, gap, quote_lines, marker, item_lines}
+use Rattle.cm_source.specs.Spelling.{break_line, parted_lines, ended_lines, heading_lines, code_lines, gap, quote_lines, marker, item_lines}
 
 -- a leaf block, and the lines that are spelled for it
 pub record SpelledLeaf : Type 0 where
@@ -46,19 +46,19 @@ unfoldable mutual
   items_tree (one_and inside items) = tree inside ∷ items_tree items
 
 -- whether an empty line follows a block: the blocks are apart, and others follow it; or the last one has one after it
-abbrev pub gap_before : (apart behind_last : Bool) → Sequence → Bool
-gap_before apart behind_last no_blocks = behind_last
-gap_before apart behind_last _ = apart
+abbrev pub gap_before : (apart beyond_last : Bool) → Sequence → Bool
+gap_before apart beyond_last no_blocks = beyond_last
+gap_before apart beyond_last _ = apart
 
 -- the lines that are spelled for blocks, with an empty line after the last or not; and for items
 unfoldable mutual
-  pub block_lines : (apart behind_last : Bool) → Sequence → List (List ℕ)
-  block_lines apart behind_last no_blocks = []
-  block_lines apart behind_last (leaf_then x rest) = x.lines ++ gap (gap_before apart behind_last rest) ++ block_lines apart behind_last rest
-  block_lines apart behind_last (quote_then inside rest) =
-      quote_lines (block_lines true false inside) ++ gap (gap_before apart behind_last rest) ++ block_lines apart behind_last rest
-  block_lines apart behind_last (list_then kind tight items rest) =
-      lines_of_items kind tight items ++ gap (gap_before apart behind_last rest) ++ block_lines apart behind_last rest
+  pub block_lines : (apart beyond_last : Bool) → Sequence → List (List ℕ)
+  block_lines apart beyond_last no_blocks = []
+  block_lines apart beyond_last (leaf_then x rest) = x.lines ++ gap (gap_before apart beyond_last rest) ++ block_lines apart beyond_last rest
+  block_lines apart beyond_last (quote_then inside rest) =
+      quote_lines (block_lines true false inside) ++ gap (gap_before apart beyond_last rest) ++ block_lines apart beyond_last rest
+  block_lines apart beyond_last (list_then kind tight items rest) =
+      lines_of_items kind tight items ++ gap (gap_before apart beyond_last rest) ++ block_lines apart beyond_last rest
 
   pub lines_of_items : ListKind → (tight : Bool) → SequenceItems → List (List ℕ)
   lines_of_items kind tight (last_one inside) = item_lines (marker kind) (block_lines (not tight) false inside)
@@ -131,7 +131,7 @@ sequence_step (block.Paragraph content) rest = leaf_then (record { part = paragr
 sequence_step (block.Heading level content) rest = leaf_then (record { part = heading level (spelled_content content); lines = heading_lines level content }) rest
 sequence_step (block.Code info text) rest = leaf_then (record { part = code info text; lines = code_lines info text }) rest
 sequence_step (block.Html text) rest = leaf_then (record { part = html text; lines = ended_lines text }) rest
-sequence_step block.Break rest = leaf_then (record { part = thematic_break; lines = codes "___" ∷ [] }) rest
+sequence_step block.Break rest = leaf_then (record { part = thematic_break; lines = break_line ∷ [] }) rest
 sequence_step (block.Definition label dest title) rest = leaf_then (record { part = definition label dest title; lines = [] }) rest
 sequence_step (block.Quote blocks) rest = quote_then (chain blocks) rest
 sequence_step (block.List kind tight items) rest = list_then kind tight (chain_items items) rest

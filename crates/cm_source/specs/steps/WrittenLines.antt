@@ -1,43 +1,27 @@
 -- Source that is written line by line: what comes before a line, as markers and indentation, is written with it.
 use Rattle.std.specs.Prelude.{◌≡◌, ℕ, ◌==◌, if◌then◌else◌, List, [], ◌∷◌, ◌++◌, length, flat_map, string_bytes, Bool, true, false}
 use Rattle.cm_scan.specs.Words.{trim_end_spaces}
+use Rattle.cm_source.specs.BetweenLines.{IsBetween, IsEnded}
 use Rattle.cm_source.specs.declared.source_lines.SourceLines.{SourceLines}
 
 -- a line after what is before it; before an empty one no spaces are at the end
-abbrev pub behind : (front line : List ℕ) → List ℕ
-behind front [] = trim_end_spaces front
-behind front (b ∷ bs) = front ++ b ∷ bs
+abbrev pub beyond : (front line : List ℕ) → List ℕ
+beyond front [] = trim_end_spaces front
+beyond front (b ∷ bs) = front ++ b ∷ bs
 
 -- further lines, each ended by a line feed
 abbrev pub further_lines : (front : List ℕ) → List (List ℕ) → List ℕ
-further_lines front lines = flat_map (λ line. behind front line ++ 10 ∷ []) lines
+further_lines front lines = flat_map (λ line. beyond front line ++ 10 ∷ []) lines
 
 -- lines, the first after something else
 abbrev pub all_lines : (first front : List ℕ) → List (List ℕ) → List ℕ
 all_lines first front [] = []
-all_lines first front (line ∷ lines) = behind first line ++ 10 ∷ further_lines front lines
+all_lines first front (line ∷ lines) = beyond first line ++ 10 ∷ further_lines front lines
 
 -- what is before the line that follows
 abbrev pub next_front : (first front : List ℕ) → List (List ℕ) → List ℕ
 next_front first front [] = first
 next_front first front (line ∷ lines) = front
-
--- a text after which the spaces of another can be stripped by themselves
-abbrev pub IsEnded : List ℕ → Type 0
-IsEnded done = (text : List ℕ) → trim_end_spaces (done ++ text) ≡ done ++ trim_end_spaces text
-
--- no line has been started, or only what comes before it has been written
-abbrev pub StandsAt : (begun : Bool) → (line : ℕ) → (text done first front : List ℕ) → Type 0
-StandsAt false line text done first front = (text ≡ done) × (first ≡ front)
-StandsAt true line text done first front = (text ≡ done ++ first) × (line ≡ length text)
-
--- Between two lines, the next of which has been started or not: these lines are done, this comes before the next one, and this before those
--- that follow it.
-pub record IsBetween (source : SourceLines) (begun : Bool) (done first front : List ℕ) : Type 0 where
-  pub begun_is : source.begun ≡ begun
-  pub stands : StandsAt begun source.line (string_bytes source.text) done first front
-  pub front_is : string_bytes source.front ≡ front
-  pub ended : IsEnded done
 
 abbrev pub next_begun : (begun : Bool) → List (List ℕ) → Bool
 next_begun begun [] = begun
@@ -58,7 +42,7 @@ pub record IsInside (source : SourceLines) (place : Place) (front : List ℕ) : 
 
 -- the lines up to a place, once its line is ended
 abbrev pub up_to : Place → List ℕ
-up_to place = place.done ++ behind place.first place.last ++ 10 ∷ []
+up_to place = place.done ++ beyond place.first place.last ++ 10 ∷ []
 
 -- where a content leads that is in lines
 unfoldable pub lay : (front : List ℕ) → Place → List ℕ → Place

@@ -8,7 +8,7 @@ use Rattle.cm_tree.specs.declared.kept_texts.KeptTexts.{KeptTexts}
 use Rattle.cm_tree.specs.declared.kept_texts.KeptTexts.TheVariants as keeping
 use Rattle.cm_tree.specs.RawBlocks.{IsBetween}
 use Rattle.cm_tree.specs.steps.KeptTexts.{kept_label, kept_target, IsKept, Keeps, GoesOn}
-use Rattle.cm_tree.proofs.lemmas.RawLemmas.{slice-same, slice-last, between-behind}
+use Rattle.cm_tree.proofs.lemmas.RawLemmas.{slice-same, slice-last, between-beyond}
 use Rattle.cm_tree.proofs.lemmas.TargetLemmas.{goes-on, between-grows}
 
 -- what lies between two places stays
@@ -37,7 +37,7 @@ part : (front text back new : List ℕ) (from to : ℕ) → new ≡ front ++ tex
     → IsBetween new from to × (slice_range new from to ≡ text)
 part front text back new from to is text_utf8 back_utf8 begins ends =
     let at_end : to ≡ length (front ++ text) = ends ∙ sym (length-append front text) in
-    let put : IsBetween (front ++ text) from to = between-behind front text (front ++ text) from to refl text_utf8 begins at_end in (
+    let put : IsBetween (front ++ text) from to = between-beyond front text (front ++ text) from to refl text_utf8 begins at_end in (
       between-grows (front ++ text) new from to (goes-on (front ++ text) back new is back_utf8) put,
       slice-same (front ++ text) back new from to is put.0 put.2.0 ∙ slice-last front text (front ++ text) from to refl begins at_end,
     )
@@ -48,21 +48,21 @@ module _ (old label dest title new : List ℕ) (is : new ≡ old ++ label ++ des
   first : new ≡ old ++ label ++ (dest ++ title)
   first = is ∙ append_assoc (old ++ label) dest title
 
-  behind_utf8 : IsUtf8 (dest ++ title)
-  behind_utf8 = IsUtf8-append dest title dest_utf8 title_utf8
+  beyond_utf8 : IsUtf8 (dest ++ title)
+  beyond_utf8 = IsUtf8-append dest title dest_utf8 title_utf8
 
-  pub all-behind : GoesOn old new
-  all-behind = goes-on old (label ++ (dest ++ title)) new (first ∙ append_assoc old label (dest ++ title)) (IsUtf8-append label (dest ++ title) label_utf8 behind_utf8)
+  pub all-beyond : GoesOn old new
+  all-beyond = goes-on old (label ++ (dest ++ title)) new (first ∙ append_assoc old label (dest ++ title)) (IsUtf8-append label (dest ++ title) label_utf8 beyond_utf8)
 
-  pub keeps-behind : (from : ℕ) → from ≡ length old → Keeps new (keeping.Placed from (length label) (length dest) (length title)) label (dest, title)
-  keeps-behind from begins =
+  pub keeps-beyond : (from : ℕ) → from ≡ length old → Keeps new (keeping.Placed from (length label) (length dest) (length title)) label (dest, title)
+  keeps-beyond from begins =
       let label_ends : from + length label ≡ length old + length label = ap (λ n. n + length label) begins in
       let dest_begins : from + length label ≡ length (old ++ label) = label_ends ∙ sym (length-append old label) in
       let dest_ends : from + length label + length dest ≡ length (old ++ label) + length dest = ap (λ n. n + length dest) dest_begins in
       let title_begins : from + length label + length dest ≡ length (old ++ label ++ dest) = dest_ends ∙ sym (length-append (old ++ label) dest) in
       let title_ends : from + length label + length dest + length title ≡ length (old ++ label ++ dest) + length title = ap (λ n. n + length title) title_begins in
       let last : new ≡ old ++ label ++ dest ++ title ++ [] = is ∙ sym (append-nil (old ++ label ++ dest ++ title)) in
-      let one = part old label (dest ++ title) new from (from + length label) first label_utf8 behind_utf8 begins label_ends in
+      let one = part old label (dest ++ title) new from (from + length label) first label_utf8 beyond_utf8 begins label_ends in
       let two = part (old ++ label) dest title new (from + length label) (from + length label + length dest) is dest_utf8 title_utf8 dest_begins dest_ends in
       let three = part (old ++ label ++ dest) title [] new (from + length label + length dest) (from + length label + length dest + length title) last title_utf8 IsUtf8-nil title_begins title_ends in
       record { there = (one.0, two.0, three.0); is_label = one.1; is_target = λ i. (two.1 i, three.1 i) }

@@ -42,8 +42,8 @@ unfolding made_after
 nothing-made text items blocks none = ap (made_of text items) none
 
 -- a text after another
-pub between-behind : (text more grown : List ℕ) (from to : ℕ) → grown ≡ text ++ more → IsUtf8 more → from ≡ length text → to ≡ length grown → IsBetween grown from to
-between-behind text more grown from to is utf8 begins ends = (
+pub between-beyond : (text more grown : List ℕ) (from to : ℕ) → grown ≡ text ++ more → IsUtf8 more → from ≡ length text → to ≡ length grown → IsBetween grown from to
+between-beyond text more grown from to is utf8 begins ends = (
   omega (arith, begins, ends, ap length is, length-append text more),
   subst (IsCharBoundary grown) (sym begins) (IsCharBoundary-at_seam grown text more is utf8),
   subst (IsCharBoundary grown) (sym ends) (IsCharBoundary-end grown),
@@ -299,13 +299,13 @@ module _ (text : List ℕ) (blocks : List RawBlock) (items : List RawItem) (held
     pub text-same : made_of new items blocks ≡ made_of text items blocks
     text-same = after-same text more new items [] items [] blocks utf8 is (sym (append-nil items)) held.blocks_are
 
-    pub text-behind : Grows (raw_held text blocks items) (raw_held new blocks items)
-    text-behind = raw-grows text more new items [] items made [] (made_of new items blocks) utf8 is (sym (append-nil items)) (text-same ∙ sym (append-nil made)) held.items_are
+    pub text-beyond : Grows (raw_held text blocks items) (raw_held new blocks items)
+    text-beyond = raw-grows text more new items [] items made [] (made_of new items blocks) utf8 is (sym (append-nil items)) (text-same ∙ sym (append-nil made)) held.items_are
 
     pub text-held : IsHeld new blocks items
     text-held = record {
       blocks_are = are-made-grow text more new items [] items [] blocks utf8 is (sym (append-nil items)) held.blocks_are;
-      items_are = are_items-grow (raw_held text blocks items) (raw_held new blocks items) items text-behind held.items_are;
+      items_are = are_items-grow (raw_held text blocks items) (raw_held new blocks items) items text-beyond held.items_are;
     }
 
   -- more blocks
@@ -317,13 +317,13 @@ module _ (text : List ℕ) (blocks : List RawBlock) (items : List RawItem) (held
     made-more : made_of text items new ≡ made ++ blocks_in (raw_held text new items) more
     made-more = after-is text items made (made_of text items new) more (ap (made_of text items) is ∙ after-more text items [] blocks more) more-made
 
-    pub blocks-behind : Grows (raw_held text blocks items) (raw_held text new items)
-    blocks-behind = raw-grows text [] text items [] items made (blocks_in (raw_held text new items) more) (made_of text items new) IsUtf8-nil (sym (append-nil text)) (sym (append-nil items)) made-more held.items_are
+    pub blocks-beyond : Grows (raw_held text blocks items) (raw_held text new items)
+    blocks-beyond = raw-grows text [] text items [] items made (blocks_in (raw_held text new items) more) (made_of text items new) IsUtf8-nil (sym (append-nil text)) (sym (append-nil items)) made-more held.items_are
 
     pub blocks-held : IsHeld text new items
     blocks-held = record {
       blocks_are = subst (AreMade text items []) (sym is) (are-made-append text items [] blocks more held.blocks_are more-made);
-      items_are = are_items-grow (raw_held text blocks items) (raw_held text new items) items blocks-behind held.items_are;
+      items_are = are_items-grow (raw_held text blocks items) (raw_held text new items) items blocks-beyond held.items_are;
     }
 
     pub blocks-last : (from to : ℕ) → from ≡ length blocks → to ≡ length new → slice_range (made_of text items new) from to ≡ blocks_in (raw_held text blocks items) more
@@ -332,13 +332,13 @@ module _ (text : List ℕ) (blocks : List RawBlock) (items : List RawItem) (held
         let several = length-map more (block_in (raw_held text new items)) in
         slice-last made (blocks_in (raw_held text new items) more) (made_of text items new) from to made-more (omega (arith, begins, made-length))
         (omega (arith, ends, ap length is, all, several, made-length, ap length made-more, length-append made (blocks_in (raw_held text new items) more)))
-        ∙ blocks-grow (raw_held text blocks items) (raw_held text new items) more blocks-behind placed
+        ∙ blocks-grow (raw_held text blocks items) (raw_held text new items) more blocks-beyond placed
 
   -- more items
 
   module _ (more new : List RawItem) (is : new ≡ items ++ more) (are : AreItems (raw_held text blocks items) more) where
-    pub items-behind : Grows (raw_held text blocks items) (raw_held text blocks new)
-    items-behind =
+    pub items-beyond : Grows (raw_held text blocks items) (raw_held text blocks new)
+    items-beyond =
         let same = after-same text [] text items more new [] blocks IsUtf8-nil (sym (append-nil text)) is held.blocks_are in
         raw-grows text [] text items more new made [] (made_of text new blocks) IsUtf8-nil (sym (append-nil text)) is (same ∙ sym (append-nil made)) held.items_are
 
@@ -348,11 +348,11 @@ module _ (text : List ℕ) (blocks : List RawBlock) (items : List RawItem) (held
         record {
           blocks_are = are-made-grow text [] text items more new [] blocks IsUtf8-nil (sym (append-nil text)) is held.blocks_are;
           items_are = subst (AreItems now) (sym is)
-              (items-append now items more (are_items-grow (raw_held text blocks items) now items items-behind held.items_are) (are_items-grow (raw_held text blocks items) now more items-behind are));
+              (items-append now items more (are_items-grow (raw_held text blocks items) now items items-beyond held.items_are) (are_items-grow (raw_held text blocks items) now more items-beyond are));
         }
 
     pub items-last : (from to : ℕ) → from ≡ length items → to ≡ length new → slice_range (items_of (made_of text new blocks) new) from to ≡ items_in (raw_held text blocks items) more
     items-last from to begins ends =
         slice-map (item_in (raw_held text blocks new)) new from to
         ∙ ap (items_in (raw_held text blocks new)) (slice-last items more new from to is begins ends)
-        ∙ items-grow (raw_held text blocks items) (raw_held text blocks new) more items-behind are
+        ∙ items-grow (raw_held text blocks items) (raw_held text blocks new) more items-beyond are

@@ -3,7 +3,7 @@ use Rattle.std.specs.Prelude.{◌≡◌, ◌≢◌, ℕ, suc, ◌+◌, ◌-◌, 
 use Rattle.std.specs.BTreeMap.{get_by_text}
 use Rattle.std.specs.Str.{bytes_eq}
 use Rattle.cm_tree.specs.declared.label_index.LabelIndex.{LabelIndex}
-use Rattle.cm_text.specs.steps.LabelNumbers.{number_of}
+use Rattle.cm_text.specs.LabelNumbers.{number_of}
 
 -- the number of slots in which a label may be
 abbrev pub near : ℕ

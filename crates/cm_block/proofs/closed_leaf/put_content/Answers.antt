@@ -33,8 +33,8 @@ returns-in_ok-leaf-in-Underline-clause-owners c =
     let owned = c.args.owners.now in
     let some : c.args.source.now ≡ [] → ⊥ = λ e. grind (arith, common_steps, e) in
     on_ok_weaker c.put.result (λ closed.
-    c.in_ok-leaf-in-Underline.ensures
-    ∙ heading_owns owned c.in-Underline.level c.args.source.now _ some (omega (arith, c.requires, c.in_ok-count_lines-in-Underline.ensures))
+    c.in_ok-leaf-in-Underline.ensures.owned
+    ∙ heading_owns owned c.in-Underline.level c.args.source.now _ some (omega (arith, c.requires.feeds))
     ∙ ap (λ e. own_leaves owned (content_leaf (underline_level e) c.args.source.now)) (sym c.in-Underline.is)) c.put.ensures.level
 
 -- nothing underlines it
@@ -58,6 +58,6 @@ returns-in_ok-leaf-in-Plain-clause-owners c =
     let owned = c.args.owners.now in
     let some : c.args.source.now ≡ [] → ⊥ = λ e. grind (arith, common_steps, e) in
     on_ok_weaker c.put-in-Plain.result (λ closed.
-    c.in_ok-leaf-in-Plain.ensures
-    ∙ content_owns owned c.args.source.now _ some (omega (arith, c.requires, c.in_ok-count_lines-in-Plain.ensures))
+    c.in_ok-leaf-in-Plain.ensures.owned
+    ∙ content_owns owned c.args.source.now _ some (omega (arith, c.requires.feeds))
     ∙ ap (λ h. own_leaves owned (content_leaf h c.args.source.now)) (none (goal.at.returns-in_ok-leaf-in-Plain-clause-owners c).In-Plain)) c.put-in-Plain.ensures.level

@@ -54,6 +54,8 @@ loop-found-preserved c =
       owners = definition_owns c.loop-found.owners c.put_definition.new.owners rest left found.label.now found.dest.now found.title.now c.in-Some.end c.lines_taken-lines.result c.in-Some.ensures.read
           c.range_from-rest.ensures.value c.lines_taken-lines.ensures put.owners
           ∙ kept.owners;
+      counted = put.counted;
+      few = omega (arith, kept.few);
     }
 
 pub returns-clause-left : goal.returns-clause-left

@@ -1,4 +1,4 @@
-use Rattle.std.proofs.Common.{◌≡◌}
+use Rattle.std.proofs.Common.{◌≡◌, ◌<◌, ◌^◌}
 use denote.Text.{Utf8}
 use denote.Shadow.{shadow}
 use Rattle.cm_scan.specs.inlines.Links.{definitions_of}
@@ -18,6 +18,8 @@ invariant-loop-found l = record {
   bare : l.stack.bare ≡ l.fn.stack.bare;
   owners : own_leaves l.owners (definition_leaves l.rest (definitions_of l.rest).taken)
       ≡ own_leaves l.fn.owners (definition_leaves l.text (definitions_of l.text).taken);
+  counted : l.leaves ≡ l.owners.leaves;
+  few : l.left < 2 ^ 63;
 }
 
 abbrev pub decreases-loop-found : goal.decreases-loop-found

@@ -12,4 +12,4 @@ returns-clause-level c =
 
 pub returns-clause-owners : goal.returns-clause-owners
 returns-clause-owners c =
-    on_ok_weaker c.put_code.result (λ put. put ∙ ap (own_plain_leaf c.args.owners.now) c.in_ok-lines.ensures) c.put_code.ensures.owners
+    on_ok_weaker c.put_code.result (λ put. put ∙ ap (own_plain_leaf c.args.owners.now) c.fence_lines-lines.ensures) c.put_code.ensures.owners

@@ -1,4 +1,4 @@
-use Rattle.std.proofs.Common.{◌≡◌, [], suc, ap, ◌∙◌, arith}
+use Rattle.std.proofs.Common.{◌≡◌, ◌+◌, [], suc, ap, ◌∙◌, arith}
 use Rattle.std.proofs.lemmas.Result.{on_ok_weaker}
 use Rattle.cm_scan.specs.blocks.Parts.{leaf_block, code}
 use Rattle.cm_scan.specs.blocks.Blocks.{line_feeds}
@@ -13,5 +13,5 @@ returns-clause-level c =
 
 pub returns-clause-owners : goal.returns-clause-owners
 returns-clause-owners c =
-    let lines : c.in_ok-lines.lines ≡ suc (line_feeds c.args.text.now) = omega (arith, c.feeds.ensures, c.in_ok-lines.ensures) in
+    let lines : c.feeds-lines.result + 1 ≡ suc (line_feeds c.args.text.now) = omega (arith, c.feeds-lines.ensures.count) in
     on_ok_weaker c.put_code.result (λ put. put ∙ ap (own_plain_leaf c.args.owners.now) lines) c.put_code.ensures.owners

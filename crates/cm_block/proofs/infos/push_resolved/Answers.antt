@@ -21,4 +21,4 @@ returns c =
     let resolved = c.args.resolved.now in
     on_ok_weaker c.push_replaced.result (λ pushed source is.
     pushed
-    ∙ ap (λ t. old ++ t) (one_by_one resolved ∙ ap (map as_space) is ∙ info_on_one_line c.args.rules source (sym c.raw_html.ensures ∙ c.if-raw_html.false))) c.push_replaced.ensures
+    ∙ ap (λ t. old ++ t) (one_by_one resolved ∙ ap (map as_space) is ∙ info_on_one_line c.args.rules source (sym c.raw_html.ensures ∙ c.if-raw_html.false))) c.push_replaced.ensures.replaced

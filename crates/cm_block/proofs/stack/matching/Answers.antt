@@ -2,8 +2,8 @@ use Rattle.std.proofs.Common.{get_or, ◌+◌, suc, ◌∙◌, refl, length, sym
 use Rattle.cm_text.specs.Views.{seen_view}
 use Rattle.cm_text.specs.declared.view.View.{View}
 use Rattle.cm_block.specs.steps.FrameViews.{container_of, frame_in, frames_in}
-use Rattle.cm_block.specs.steps.FrameSteps.{matching, behind}
-use Rattle.cm_block.proofs.lemmas.Matching.{none_open, frames_from, frames_end, match_next, match_stop, match_end, match_lazy, behind_all, all_lazily, none_lazily}
+use Rattle.cm_block.specs.steps.FrameSteps.{matching, beyond}
+use Rattle.cm_block.proofs.lemmas.Matching.{none_open, frames_from, frames_end, match_next, match_stop, match_end, match_lazy, beyond_all, all_lazily, none_lazily}
 use Rattle.cm_block.proofs.lemmas.TestLemmas.{tested_then, tested_within, next_and_lazily}
 use Rattle.cm_block.proofs.stack.matching.Goals as goal
 
@@ -25,7 +25,7 @@ pub returns-in-Lazily-clause-line : goal.returns-in-Lazily-clause-line
 returns-in-Lazily-clause-line c = λ raw.
     let frames = c.args.frames.now in
     let i = c.loop-depth.depth in
-    behind_all raw frames i _ (seen_view c.take_in.new.line.rest) c.loop-depth-test.true
+    beyond_all raw frames i _ (seen_view c.take_in.new.line.rest) c.loop-depth-test.true
     (match_lazy c.args.rules c.args.bare c.args.open_text (container_of (get_or frames i c.index-frames-depth.result).container) c.is_bare_at-is_bare.result (seen_view c.loop-depth.line.rest) (seen_view c.take_in.new.line.rest)
     (drop (suc i) (frames_in raw frames)) c.in-Lazily.ensures.line (c.in-Lazily.ensures.lazy refl))
     ∙ sym (match_next c.args.rules c.args.bare c.args.open_text i (frame_in raw (get_or frames i c.index-frames-depth.result)) (drop (suc i) (frames_in raw frames)) (seen_view c.loop-depth.line.rest)
@@ -60,7 +60,7 @@ returns-then-goes_on_lazily-clause-line c = λ raw.
     let line = seen_view c.enter_items-first.new.line.rest in
     all_lazily c.args.rules c.args.open_text raw c.args.frames.now count line (e.leaves leaves raw)
     (seen_view c.goes_on_lazily.new.self.rest) (e.more leaves) c.if-goes_on_lazily.ensures.line (c.goes_on_lazily.ensures.lazy c.if-goes_on_lazily.true)
-    ∙ ap (λ b. behind count (matching c.args.rules b c.args.open_text (drop count (frames_in raw c.args.frames.now)) line)) (sym (e.all leaves))
+    ∙ ap (λ b. beyond count (matching c.args.rules b c.args.open_text (drop count (frames_in raw c.args.frames.now)) line)) (sym (e.all leaves))
     ∙ e.through c.args.rules c.args.open_text raw
 
 pub returns-then-goes_on_lazily-clause-tests : goal.returns-then-goes_on_lazily-clause-tests
@@ -77,7 +77,7 @@ returns-else-goes_on_lazily-clause-line c = λ raw.
     let line = seen_view c.enter_items-first.new.line.rest in
     ap (λ (v : View). (count, seen_view v)) (c.goes_on_lazily.ensures.same c.if-goes_on_lazily.false)
     ∙ none_lazily c.args.rules c.args.open_text raw c.args.frames.now count line (e.leaves leaves raw) c.if-goes_on_lazily.ensures.line
-    ∙ ap (λ b. behind count (matching c.args.rules b c.args.open_text (drop count (frames_in raw c.args.frames.now)) line)) (sym (e.all leaves))
+    ∙ ap (λ b. beyond count (matching c.args.rules b c.args.open_text (drop count (frames_in raw c.args.frames.now)) line)) (sym (e.all leaves))
     ∙ e.through c.args.rules c.args.open_text raw
 
 pub returns-else-goes_on_lazily-clause-tests : goal.returns-else-goes_on_lazily-clause-tests

@@ -2,7 +2,8 @@ use Rattle.std.proofs.Common.{◌≡◌, ◌∙◌, sym, ap}
 use Rattle.cm_text.specs.Views.{seen_view}
 use Rattle.cm_text.specs.declared.view.View.{View}
 use Rattle.cm_scan.specs.blocks.Starts.{interrupts_paragraph}
-use Rattle.cm_scan.specs.blocks.Blocks.{by_interruption, next_line}
+use Rattle.cm_scan.specs.blocks.Blocks.{next_line}
+use Rattle.cm_scan.specs.steps.LineSteps.{by_interruption}
 use Rattle.cm_block.specs.steps.LeafSteps.{leaf_line, heading_level}
 use Rattle.cm_block.proofs.lemmas.NextLineLemmas.{underlines, interrupted, lazy_interrupts}
 use Rattle.cm_block.proofs.text_runs.next_line.Goals.{In_default, In_default-heading_level}

@@ -4,5 +4,5 @@ use Rattle.cm_html.proofs.inlines.push_link_start.Goals as goal
 
 pub returns : goal.returns
 returns c =
-    let titled = c.push_title_behind.new.out in
-    grind (arith, common_steps, append_assoc titled (34 ∷ []) (62 ∷ []), ap (λ t. t ++ 62 ∷ []) c.in_ok-push_title_behind.ensures)
+    let titled = c.push_title_after.new.out in
+    grind (arith, common_steps, append_assoc titled (34 ∷ []) (62 ∷ []), ap (λ t. t ++ 62 ∷ []) c.in_ok-push_title_after.ensures)

@@ -4,4 +4,4 @@ use Rattle.cm_text.proofs.lemmas.SearchLemmas.{none-before-end}
 use Rattle.cm_html.proofs.search.is_unchanged.Goals as goal
 
 pub returns : goal.returns
-returns c = ap (λ n. n == length c.args.destination.now) c.next_of.ensures ∙ none-before-end is_changed c.args.destination.now
+returns c = ap (λ n. n == length c.args.destination.now) c.next_of.ensures.next ∙ none-before-end is_changed c.args.destination.now

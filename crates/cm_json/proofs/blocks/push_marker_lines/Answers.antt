@@ -1,7 +1,7 @@
 use Rattle.std.proofs.Common.{◌+◌, ◌<◌, ◌++◌, true, drop, length, ap, ap₂, sym, ◌∙◌, arith, append_assoc}
 use Rattle.std.specs.Fmt.{decimal}
 use Rattle.cm_json.specs.Mdast.{marker_lines}
-use Rattle.cm_json.specs.steps.Texts.{comma, items_text}
+use Rattle.cm_json.specs.Printing.{comma, items_text}
 use Rattle.cm_json.proofs.lemmas.MarkerLemmas.{no_marker, a_marker}
 use Rattle.cm_json.proofs.blocks.push_marker_lines.Goals as goal
 use Rattle.cm_json.proofs.blocks.push_marker_lines.Goals.{then-is_marker+in_ok-push_line_number, else-is_marker}

@@ -1,6 +1,6 @@
 use Rattle.std.proofs.Common.{◌≡◌, ◌++◌, false, drop}
 use Rattle.cm_json.specs.Mdast.{marker_lines}
-use Rattle.cm_json.specs.steps.Texts.{items_text}
+use Rattle.cm_json.specs.Printing.{items_text}
 use Rattle.cm_json.proofs.blocks.push_marker_lines.Given as goal
 
 -- what was written and what is left are all

@@ -1,7 +1,7 @@
 use Rattle.std.proofs.Common.{◌++◌, true, false, codes, ap, sym, ◌∙◌}
 use Rattle.json.specs.Print.{escape_byte}
 use Rattle.cm_json.specs.Mdast.{marker_lines, markers}
-use Rattle.cm_json.specs.steps.Texts.{items_text, members_text}
+use Rattle.cm_json.specs.Printing.{items_text, members_text}
 use Rattle.cm_json.proofs.lemmas.MarkerLemmas.{none_told, some_told}
 use Rattle.cm_json.proofs.lemmas.Pushed.{in_full, at_last}
 use Rattle.cm_json.proofs.blocks.push_markers.Goals as goal

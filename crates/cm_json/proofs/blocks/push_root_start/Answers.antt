@@ -1,6 +1,7 @@
 use Rattle.std.proofs.Common.{◌++◌, true, codes, length}
 use Rattle.cm_json.specs.Mdast.{markers}
-use Rattle.cm_json.specs.steps.Texts.{lines_text, members_text}
+use Rattle.cm_json.specs.steps.Texts.{lines_text}
+use Rattle.cm_json.specs.Printing.{members_text}
 use Rattle.cm_json.proofs.lemmas.Pushed.{at_last}
 use Rattle.cm_json.proofs.blocks.push_root_start.Goals as goal
 

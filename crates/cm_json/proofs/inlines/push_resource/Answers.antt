@@ -1,6 +1,6 @@
 use Rattle.std.proofs.Common.{◌++◌, codes}
 use Rattle.cm_json.specs.Mdast.{optional}
-use Rattle.cm_json.specs.steps.Texts.{text, between_quotes}
+use Rattle.cm_json.specs.Printing.{text, between_quotes}
 use Rattle.cm_json.proofs.lemmas.Pushed.{at_last}
 use Rattle.cm_json.proofs.inlines.push_resource.Goals as goal
 

@@ -2,7 +2,7 @@ use Rattle.std.proofs.Common.{Bool, true, false, cond, List, ℕ, codes, ap, sym
 use Rattle.json.specs.Json.{boolean, no_members, member}
 use Rattle.json.specs.Print.{escape_byte}
 use Rattle.cm_json.specs.Mdast.{final_newline}
-use Rattle.cm_json.specs.steps.Texts.{members_text}
+use Rattle.cm_json.specs.Printing.{members_text}
 use Rattle.cm_json.proofs.lemmas.Pushed.{in_full}
 use Rattle.cm_json.proofs.leaves.push_final_newline.Goals as goal
 

@@ -3,8 +3,9 @@ use Rattle.std.proofs.lemmas.List.{drop_more, drop_all}
 use Rattle.cm_source.specs.Spelling.{gap, marker, item_lines, lines_of_block, lines_of_blocks}
 use Rattle.cm_source.specs.steps.WrittenLines.{Writes}
 use Rattle.cm_source.proofs.lemmas.spelling.WrittenLineLemmas.{then-ok, writes-then}
-use Rattle.cm_source.proofs.lemmas.shared.BlockKinds.{list-lines}
 use Rattle.cm_source.proofs.lemmas.spelling.SpelledBlocks.{gapped, gapped-on, item_lines_of, lines_of_items, quote-writes, item-writes}
+use Rattle.cm_tree.proofs.lemmas.BlockFolds as block_fold
+use Rattle.cm_source.specs.Spelling as spelling
 use Rattle.cm_source.proofs.blocks.+blocks.Goals as goal
 
 pub spell_quote-returns : goal.spell_quote-returns
@@ -57,5 +58,5 @@ spell_block-returns-after-loop-item t c =
     let tight = c.in-List.tight in
     let items = c.as_slice-item-items.result.now in
     let nothing = ap (λ t. inv.0 ++ gapped c.loop-item.gap (not tight) (item_lines_of kind tight t)) (drop_all c.loop-item.item-index items c.loop-item-test.false) ∙ append-nil inv.0 in
-    let whole = ap lines_of_block c.in-List.is ∙ list-lines kind tight c.in-List.items ∙ ap (lines_of_items kind tight) (sym c.as_slice-item-items.ensures) in
+    let whole = ap lines_of_block c.in-List.is ∙ block_fold.list spelling.block_step kind tight c.in-List.items ∙ ap (lines_of_items kind tight) (sym c.as_slice-item-items.ensures) in
     subst (Writes c.args.source.now c.loop-item.source) (sym (whole ∙ inv.2 ∙ nothing)) inv.1

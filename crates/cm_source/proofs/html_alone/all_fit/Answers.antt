@@ -18,9 +18,9 @@ returns-then-not-fits c =
     let found : position (λ b. b == 10) c.loop-at.rest.now ≡ Some c.in-Some.at = cc in
     let rest = c.loop-at.rest.now in
     let line = c.cut_at.result.0.now in
-    let behind = c.cut_at.result.1.now in
-    let is = cut-first rest line behind c.in-Some.at found c.cut_at.ensures.before c.cut_at.ensures.after in
-    sym (fit-first (kind_of c.args.kind) rest line behind c.fits.result c.is_empty.result is c.is_empty.ensures c.fits.ensures ∙ ap (λ v. v && all_fit (kind_of c.args.kind) (ended_lines behind)) c.if-not-fits.true)
+    let beyond = c.cut_at.result.1.now in
+    let is = cut-first rest line beyond c.in-Some.at found c.cut_at.ensures.before c.cut_at.ensures.after in
+    sym (fit-first (kind_of c.args.kind) rest line beyond c.fits.result c.is_empty.result is c.is_empty.ensures c.fits.ensures ∙ ap (λ v. v && all_fit (kind_of c.args.kind) (ended_lines beyond)) c.if-not-fits.true)
     ∙ c.loop-at.invariant.1
 
 pub loop-at-preserved : goal.loop-at-preserved
@@ -28,10 +28,10 @@ loop-at-preserved c =
     let found : position (λ b. b == 10) c.loop-at.rest.now ≡ Some c.in-Some.at = cc in
     let rest = c.loop-at.rest.now in
     let line = c.cut_at.result.0.now in
-    let behind = c.cut_at.result.1.now in
-    let is = cut-first rest line behind c.in-Some.at found c.cut_at.ensures.before c.cut_at.ensures.after in (
+    let beyond = c.cut_at.result.1.now in
+    let is = cut-first rest line beyond c.in-Some.at found c.cut_at.ensures.before c.cut_at.ensures.after in (
       c.cut_at.ensures.after_utf8,
-      sym (fit-first (kind_of c.args.kind) rest line behind c.fits.result c.is_empty.result is c.is_empty.ensures c.fits.ensures ∙ ap (λ v. v && all_fit (kind_of c.args.kind) (ended_lines behind)) c.if-not-fits.false)
+      sym (fit-first (kind_of c.args.kind) rest line beyond c.fits.result c.is_empty.result is c.is_empty.ensures c.fits.ensures ∙ ap (λ v. v && all_fit (kind_of c.args.kind) (ended_lines beyond)) c.if-not-fits.false)
           ∙ c.loop-at.invariant.1,
     )
 

@@ -11,11 +11,11 @@ returns-then-not-is_code_text c = sym (no-html c.args.rules c.args.text.now (sym
 pub returns-in-Some : goal.returns-in-Some
 returns-in-Some c =
     let lines = ended_lines c.args.text.now in
-    c.all_fit.ensures ∙ ap (λ o. fit_from o lines) (c.in-Some.ensures ∙ ap (html_start c.args.rules) c.first_line.ensures)
+    c.all_fit.ensures ∙ ap (λ o. fit_from o lines) (c.in-Some.ensures.start ∙ ap (html_start c.args.rules) c.first_line.ensures)
     ∙ sym (is-html c.args.rules c.args.text.now (sym c.is_code_text.ensures ∙ c.if-not-is_code_text.false))
 
 pub returns-in-None : goal.returns-in-None
 returns-in-None c =
     let lines = ended_lines c.args.text.now in
-    ap (λ o. fit_from o lines) (c.in-None.ensures ∙ ap (html_start c.args.rules) c.first_line.ensures)
+    ap (λ o. fit_from o lines) (c.in-None.ensures.start ∙ ap (html_start c.args.rules) c.first_line.ensures)
     ∙ sym (is-html c.args.rules c.args.text.now (sym c.is_code_text.ensures ∙ c.if-not-is_code_text.false))

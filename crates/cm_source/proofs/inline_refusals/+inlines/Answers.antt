@@ -6,8 +6,9 @@ use Rattle.cm_source.specs.declared.why.Why.{Why}
 use Rattle.cm_source.specs.Answers.{ok_unless}
 use Rattle.cm_source.specs.InlineRefusals.{first_face, further_in, Judged, judged, refused, emphasis_reasons, refusal_of_all}
 use Rattle.cm_source.specs.steps.InlineFaces.{seen, place_of}
-use Rattle.cm_source.proofs.lemmas.shared.InlineKinds.{soft-judged, hard-judged}
 use Rattle.cm_source.proofs.lemmas.refusals.RefusalLemmas.{stops, goes-on, no-reason, told-error, from-next, from-end}
+use Rattle.cm_tree.proofs.lemmas.InlineFolds as inline_fold
+use Rattle.cm_source.specs.InlineRefusals as refusals
 use Rattle.cm_source.proofs.inline_refusals.+inlines.Goals as goal
 
 pub check_inlines-loop-at-init : goal.check_inlines-loop-at-init
@@ -80,10 +81,10 @@ pub check_inline-returns-in-Soft : goal.check_inline-returns-in-Soft
 check_inline-returns-in-Soft t c =
     let rules = c.args.rules in
     c.check_break.ensures rules
-    ∙ ap (λ (j : Judged). ok_unless (j.refusal (place_of c.args.place) (seen c.args.before) (first_face (map (judged rules) c.args.rest.now)))) (sym (ap (judged rules) c.in-Soft.is ∙ soft-judged rules))
+    ∙ ap (λ (j : Judged). ok_unless (j.refusal (place_of c.args.place) (seen c.args.before) (first_face (map (judged rules) c.args.rest.now)))) (sym (ap (judged rules) c.in-Soft.is ∙ (inline_fold.soft (refusals.inline_step rules))))
 
 pub check_inline-returns-in-Hard : goal.check_inline-returns-in-Hard
 check_inline-returns-in-Hard t c =
     let rules = c.args.rules in
     c.check_break-in-Hard.ensures rules
-    ∙ ap (λ (j : Judged). ok_unless (j.refusal (place_of c.args.place) (seen c.args.before) (first_face (map (judged rules) c.args.rest.now)))) (sym (ap (judged rules) c.in-Hard.is ∙ hard-judged rules))
+    ∙ ap (λ (j : Judged). ok_unless (j.refusal (place_of c.args.place) (seen c.args.before) (first_face (map (judged rules) c.args.rest.now)))) (sym (ap (judged rules) c.in-Hard.is ∙ (inline_fold.hard (refusals.inline_step rules))))

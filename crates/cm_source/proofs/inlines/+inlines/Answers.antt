@@ -5,7 +5,9 @@ use Rattle.cm_source.specs.Texts.{spelled_target}
 use Rattle.cm_source.specs.Inlines.{spelled, spelled_inlines, is_line_end}
 use Rattle.cm_source.specs.steps.WrittenLines.{Lays}
 use Rattle.cm_source.proofs.lemmas.spelling.WrittenLineLemmas.{then-ok, lays-then, lays-nothing}
-use Rattle.cm_source.proofs.lemmas.shared.InlineKinds.{emph-spelled, strong-spelled, strike-spelled, link-spelled, image-spelled, its-spelling}
+use Rattle.cm_source.proofs.lemmas.shared.Alike.{its-spelling}
+use Rattle.cm_tree.proofs.lemmas.InlineFolds as inline_fold
+use Rattle.cm_source.specs.Inlines as spelling
 use Rattle.cm_source.proofs.inlines.+inlines.Goals as goal
 
 pub spell_between-returns : goal.spell_between-returns
@@ -28,21 +30,21 @@ pub spell_inline-returns-in-Emph : goal.spell_inline-returns-in-Emph
 spell_inline-returns-in-Emph t c =
     let start = c.args.source.now in
     let end = c.spell_between.new.source in
-    let shape = ap (λ content. codes "*" ++ spelled_inlines false false content ++ codes "*") c.as_slice.ensures ∙ sym (ap (λ i. (spelled i).spelling c.args.first c.args.last) c.in-Emph.is ∙ its-spelling (emph-spelled c.in-Emph.content) c.args.first c.args.last) in
+    let shape = ap (λ content. codes "*" ++ spelled_inlines false false content ++ codes "*") c.as_slice.ensures ∙ sym (ap (λ i. (spelled i).spelling c.args.first c.args.last) c.in-Emph.is ∙ its-spelling (inline_fold.emph spelling.inline_step c.in-Emph.content) c.args.first c.args.last) in
     then-ok c.spell_between.result (subst (Lays start end) shape) c.spell_between.ensures
 
 pub spell_inline-returns-in-Strong : goal.spell_inline-returns-in-Strong
 spell_inline-returns-in-Strong t c =
     let start = c.args.source.now in
     let end = c.spell_between-in-Strong.new.source in
-    let shape = ap (λ content. codes "**" ++ spelled_inlines false false content ++ codes "**") c.as_slice-in-Strong.ensures ∙ sym (ap (λ i. (spelled i).spelling c.args.first c.args.last) c.in-Strong.is ∙ its-spelling (strong-spelled c.in-Strong.content) c.args.first c.args.last) in
+    let shape = ap (λ content. codes "**" ++ spelled_inlines false false content ++ codes "**") c.as_slice-in-Strong.ensures ∙ sym (ap (λ i. (spelled i).spelling c.args.first c.args.last) c.in-Strong.is ∙ its-spelling (inline_fold.strong spelling.inline_step c.in-Strong.content) c.args.first c.args.last) in
     then-ok c.spell_between-in-Strong.result (subst (Lays start end) shape) c.spell_between-in-Strong.ensures
 
 pub spell_inline-returns-in-Strike : goal.spell_inline-returns-in-Strike
 spell_inline-returns-in-Strike t c =
     let start = c.args.source.now in
     let end = c.spell_between-in-Strike.new.source in
-    let shape = ap (λ content. codes "~~" ++ spelled_inlines false false content ++ codes "~~") c.as_slice-in-Strike.ensures ∙ sym (ap (λ i. (spelled i).spelling c.args.first c.args.last) c.in-Strike.is ∙ its-spelling (strike-spelled c.in-Strike.content) c.args.first c.args.last) in
+    let shape = ap (λ content. codes "~~" ++ spelled_inlines false false content ++ codes "~~") c.as_slice-in-Strike.ensures ∙ sym (ap (λ i. (spelled i).spelling c.args.first c.args.last) c.in-Strike.is ∙ its-spelling (inline_fold.strike spelling.inline_step c.in-Strike.content) c.args.first c.args.last) in
     then-ok c.spell_between-in-Strike.result (subst (Lays start end) shape) c.spell_between-in-Strike.ensures
 
 pub spell_inline-returns-in-Link : goal.spell_inline-returns-in-Link
@@ -53,7 +55,7 @@ spell_inline-returns-in-Link t c =
     let shape = ap (λ content. codes "[" ++ spelled_inlines false false content ++ spelled_target c.as_str-in-Link.result.now c.as_str-in-Link-2.result.now) c.as_slice-in-Link.ensures
     ∙ ap (λ dest. codes "[" ++ spelled_inlines false false i.content ++ spelled_target dest c.as_str-in-Link-2.result.now) c.as_str-in-Link.ensures
     ∙ ap (λ title. codes "[" ++ spelled_inlines false false i.content ++ spelled_target i.dest title) c.as_str-in-Link-2.ensures
-    ∙ sym (ap (λ i. (spelled i).spelling c.args.first c.args.last) i.is ∙ its-spelling (link-spelled i.dest i.title i.content) c.args.first c.args.last) in
+    ∙ sym (ap (λ i. (spelled i).spelling c.args.first c.args.last) i.is ∙ its-spelling (inline_fold.link spelling.inline_step i.dest i.title i.content) c.args.first c.args.last) in
     then-ok c.spell_link.result (subst (Lays start end) shape) c.spell_link.ensures
 
 pub spell_inline-returns-in-Image : goal.spell_inline-returns-in-Image
@@ -64,7 +66,7 @@ spell_inline-returns-in-Image t c =
     let shape = ap (λ content. codes "![" ++ spelled_inlines false false content ++ spelled_target c.as_str-in-Image.result.now c.as_str-in-Image-2.result.now) c.as_slice-in-Image.ensures
     ∙ ap (λ dest. codes "![" ++ spelled_inlines false false i.content ++ spelled_target dest c.as_str-in-Image-2.result.now) c.as_str-in-Image.ensures
     ∙ ap (λ title. codes "![" ++ spelled_inlines false false i.content ++ spelled_target i.dest title) c.as_str-in-Image-2.ensures
-    ∙ sym (ap (λ i. (spelled i).spelling c.args.first c.args.last) i.is ∙ its-spelling (image-spelled i.dest i.title i.content) c.args.first c.args.last) in
+    ∙ sym (ap (λ i. (spelled i).spelling c.args.first c.args.last) i.is ∙ its-spelling (inline_fold.image spelling.inline_step i.dest i.title i.content) c.args.first c.args.last) in
     then-ok c.spell_link-in-Image.result (subst (Lays start end) shape) c.spell_link-in-Image.ensures
 
 pub spell_inlines-loop-at-init : goal.spell_inlines-loop-at-init

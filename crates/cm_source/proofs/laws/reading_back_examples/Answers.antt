@@ -78,7 +78,7 @@ contents = record {
   hard_break = record { spellable = simp judging; spelled = simp spelling; read = simp reading };
   break_in_emphasis = record { spellable = simp judging; spelled = simp spelling; read = simp reading };
   spaces_at_a_break = record { spellable = simp judging; spelled = simp spelling; read = simp reading };
-  markup_behind_a_break = record { spellable = simp judging; spelled = simp spelling; read = simp reading };
+  markup_after_a_break = record { spellable = simp judging; spelled = simp spelling; read = simp reading };
   emphasis_in_a_heading = record { spellable = simp judging; spelled = simp spelling; read = simp reading };
   break_in_a_quoted_item = record { spellable = simp judging; spelled = simp spelling; read = simp reading };
 }

@@ -21,13 +21,13 @@ of_inlines = record {
   space_inside = simp judging;
   plain_before_punctuation = simp judging;
   plain_before_plain = simp judging;
-  plain_behind_a_code_span = simp judging;
+  plain_after_a_code_span = simp judging;
   empty_code_span = simp judging;
   two_code_spans = simp judging;
   end_of_a_label = simp judging;
   end_of_a_label_later = simp judging;
   html_first = simp judging;
-  html_behind_a_break = simp judging;
+  html_after_a_break = simp judging;
   two_tags = simp judging;
   autolink_as_a_declaration = simp judging;
   link_in_link = simp judging;
@@ -65,7 +65,7 @@ of_blocks = record {
   list_first = simp judging;
   loose_item_of_one = simp judging;
   tight_item_of_two = simp judging;
-  list_from_2_behind_a_paragraph = simp judging;
+  list_from_2_after_a_paragraph = simp judging;
 }
 
 pub returns-clause-inlines : goal.returns-clause-inlines

@@ -9,9 +9,9 @@ use Rattle.cm_text.specs.Indentation.{indent_of, strip_columns}
 use Rattle.cm_tree.specs.declared.tree.ListKind.{ListKind}
 use Rattle.cm_scan.specs.Words.{is_blank_text, skip, run_length, after_run}
 use Rattle.cm_scan.specs.blocks.Lines.{is_blank, past, as_lazy}
-use Rattle.cm_scan.specs.blocks.LineForms.{ItemMarker, marker_width, is_thematic_break, atx_heading, opening_fence, fence_of, item_marker, bullet_marker, ordered_marker, marker_behind, underline}
+use Rattle.cm_scan.specs.blocks.LineForms.{ItemMarker, marker_width, is_thematic_break, atx_heading, opening_fence, fence_of, item_marker, bullet_marker, ordered_marker, marker_after, underline}
 use Rattle.cm_scan.specs.blocks.HtmlBlocks.{html_start}
-use Rattle.cm_scan.specs.blocks.Starts.{Start, QuoteMarker, ItemStart, start_of, start_of_content, behind_quote_marker, behind_marker, starts_at_one, can_interrupt, interrupts_paragraph, Continuation, StaysIfOpen, Leaves, quote_continuation, continuation_in_quote, continuation_if_lazy, may_be_lazy, item_continuation, continuation_in_item, content_column, first_content}
+use Rattle.cm_scan.specs.blocks.Starts.{Start, QuoteMarker, ItemStart, start_of, start_of_content, after_quote_marker, after_marker, starts_at_one, can_interrupt, interrupts_paragraph, Continuation, StaysIfOpen, Leaves, quote_continuation, continuation_in_quote, continuation_if_lazy, may_be_lazy, item_continuation, continuation_in_item, content_column, first_content}
 use Rattle.cm_scan.specs.blocks.Parts.{Parts, leaves_paragraph_open, quote, put_item, none, blank}
 use Rattle.cm_scan.specs.blocks.Blocks.{is_bare, parts_of}
 use Rattle.cm_scan.specs.laws.PartLaws.{goes_inward, next_inward, AllStay, no_more, one_stays, FirstLeaves}
@@ -20,7 +20,7 @@ use Rattle.cm_scan.proofs.lemmas.blocks.PartsByCases.{quote_case, item_case, bla
 use Rattle.cm_scan.proofs.lemmas.blocks.SingleBlocks.{unindented_line, item_and_space, item_alone}
 use Rattle.cm_source.specs.Spelling.{spaced, quoted, indented, item_lines, marker}
 use Rattle.cm_source.specs.steps.Sources.{is_only}
-use Rattle.cm_source.proofs.lemmas.blocks.SequenceLines.{at, Have, no_lines, a_line, indent-spaces, strip-indented, behind-quote}
+use Rattle.cm_source.proofs.lemmas.blocks.SequenceLines.{at, Have, no_lines, a_line, indent-spaces, strip-indented, beyond-quote}
 
 -- what follows a block: nothing, or an empty line
 pub data Apart : List LineView → Type 0 where
@@ -55,7 +55,7 @@ module _ (rules : Rules) where
   abbrev in_quote : Bool → LineView → Continuation
   in_quote bare l = continuation_in_quote rules l
 
-  goes-in-quote : (so_far : List LineView) (c d : ℕ) (t : List ℕ) → behind_quote_marker (at c (quoted t)) ≡ at d t → next_inward rules in_quote so_far (at c (quoted t)) ≡ Some (at d t)
+  goes-in-quote : (so_far : List LineView) (c d : ℕ) (t : List ℕ) → after_quote_marker (at c (quoted t)) ≡ at d t → next_inward rules in_quote so_far (at c (quoted t)) ≡ Some (at d t)
   unfolding continuation_in_quote
   goes-in-quote so_far c d t e =
       ap (λ (s : Start). goes_inward (quote_continuation rules s (at c (quoted t))) (leaves_paragraph_open (parts_of rules so_far))) (quote-start c t)
@@ -64,12 +64,12 @@ module _ (rules : Rules) where
   all-in-quote : (ts : List (List ℕ)) (ls so_far : List LineView) → Have ls (map quoted ts) → (inner : List LineView) × Have inner ts × AllStay rules in_quote so_far ls (so_far ++ inner)
   all-in-quote [] ls so_far no_lines = ([], no_lines, subst (AllStay rules in_quote so_far []) (sym (append-nil so_far)) no_more)
   all-in-quote (t ∷ ts) ls so_far (a_line {c = c} {ls = further} have) =
-      let (d, e) = behind-quote c t in
+      let (d, e) = beyond-quote c t in
       let (inner, more, all) = all-in-quote ts further (so_far ++ at d t ∷ []) have in
       (at d t ∷ inner, a_line more, one_stays (goes-in-quote so_far c d t e) (subst (AllStay rules in_quote (so_far ++ at d t ∷ []) further) (append_assoc so_far (at d t ∷ []) inner) all))
 
   out-of-quote : (inner rest : List LineView) → Apart rest → FirstLeaves rules in_quote inner rest
-  unfolding continuation_in_quote continuation_if_lazy start_of start_of_content atx_heading opening_fence fence_of html_start is_thematic_break item_marker bullet_marker ordered_marker marker_behind run_length after_run skip
+  unfolding continuation_in_quote continuation_if_lazy start_of start_of_content atx_heading opening_fence fence_of html_start is_thematic_break item_marker bullet_marker ordered_marker marker_after run_length after_run skip
   out-of-quote inner rest at_end = tt
   out-of-quote inner rest before_empty = refl
 
@@ -77,8 +77,8 @@ module _ (rules : Rules) where
   pub quote-back : (t : List ℕ) (ts : List (List ℕ)) (ls rest : List LineView) (p : Parts) → ((inner : List LineView) → Have inner (t ∷ ts) → parts_of rules inner ≡ p)
       → Have ls (map quoted (t ∷ ts)) → Apart rest → parts_of rules (ls ++ rest) ≡ quote p (parts_of rules rest)
   quote-back t ts ls rest p content (a_line {c = c} {ls = further} have) apart =
-      let (d, e) = behind-quote c t in
-      let first = behind_quote_marker (at c (quoted t)) in
+      let (d, e) = beyond-quote c t in
+      let first = after_quote_marker (at c (quoted t)) in
       let (inner, more, all) = all-in-quote ts further (first ∷ []) have in
       let whole : Have (first ∷ inner) (t ∷ ts) = subst (λ l. Have (l ∷ inner) (t ∷ ts)) (sym e) (a_line more) in
       quote_case rules (at c (quoted t)) further (first ∷ inner) rest ((unindented_line rules (at c (quoted t)) refl refl).not_blank, quote-start c t) all (out-of-quote _ rest apart)
@@ -174,8 +174,8 @@ module _ (rules : Rules) where
         let bare = bare-front (marker kind) (32 ∷ t) r.bare in
         let reads = unindented_line rules l refl bare in
         ap (λ s. can_interrupt s l) (reads.start ∙ r.starts t dashes stars)
-        ∙ ap (λ k. starts_at_one k && not (is_blank (behind_marker r.read l))) r.same
-        ∙ ap (λ v. v && not (is_blank (behind_marker r.read l))) one
+        ∙ ap (λ k. starts_at_one k && not (is_blank (after_marker r.read l))) r.same
+        ∙ ap (λ v. v && not (is_blank (after_marker r.read l))) one
         ∙ ap (λ s. not (is_blank_text (drop (marker_width r.read) s))) reads.content
         ∙ ap (λ n. not (is_blank_text (drop n (marker kind ++ 32 ∷ t)))) (sym r.width)
         ∙ ap (λ s. not (is_blank_text s)) (drop-append_seam (marker kind) (32 ∷ t))

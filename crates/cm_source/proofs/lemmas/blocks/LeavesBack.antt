@@ -1,5 +1,5 @@
 -- Spelled headings, breaks and paragraphs are read as they were.
-use Rattle.std.proofs.Common.{◌≡◌, ℕ, zero, suc, ◌==◌, ◌&&◌, not, Bool, true, false, List, [], ◌∷◌, ◌++◌, codes, replicate, refl, sym, ◌∙◌, ap, subst, arith, Some, None, append_assoc, if◌then◌else◌}
+use Rattle.std.proofs.Common.{◌≡◌, ℕ, zero, suc, ◌==◌, ◌&&◌, not, Bool, true, false, List, [], ◌∷◌, ◌++◌, replicate, refl, sym, ◌∙◌, ap, subst, arith, Some, None, append_assoc, if◌then◌else◌}
 use Rattle.std.proofs.lemmas.Bool.{false≢true, and_parts, eqb-true}
 use Rattle.std.specs.Prelude.{nat_le}
 use Rattle.std.specs.List.{list_all}
@@ -7,17 +7,18 @@ use Rattle.cm_text.specs.Rules.{Rules}
 use Rattle.cm_text.specs.Lines.{LineView}
 use Rattle.cm_tree.specs.declared.tree.Inline.{Inline}
 use Rattle.cm_scan.specs.Words.{is_at_gap, is_empty, skip, trim, run_length, after_run, given}
-use Rattle.cm_scan.specs.blocks.LineForms.{Heading, atx_heading, without_closing, underline, opening_fence, fence_of, is_thematic_break, item_marker, bullet_marker, ordered_marker, marker_behind}
+use Rattle.cm_scan.specs.blocks.LineForms.{Heading, atx_heading, without_closing, underline, opening_fence, fence_of, is_thematic_break, item_marker, bullet_marker, ordered_marker, marker_after}
 use Rattle.cm_scan.specs.blocks.HtmlBlocks.{html_start}
 use Rattle.cm_scan.specs.inlines.Links.{definitions_of}
 use Rattle.cm_scan.specs.blocks.Starts.{AtxHeading, start_of_content, can_interrupt, interrupts_paragraph, underline_of}
 use Rattle.cm_scan.specs.blocks.Parts.{paragraph, heading, thematic_break, Parts, leaf, put_leaves}
-use Rattle.cm_scan.specs.blocks.Blocks.{add_text, rest_of, NextLine, GoesOn, Ends, by_interruption, by_underline, next_line, TextRun, text_run, line_count, definition_leaves, content_leaf, leaves_of_run, parts_of}
+use Rattle.cm_scan.specs.blocks.Blocks.{add_text, rest_of, NextLine, GoesOn, Ends, by_underline, next_line, TextRun, text_run, line_count, definition_leaves, content_leaf, leaves_of_run, parts_of}
 use Rattle.cm_scan.specs.laws.BlockLaws.{is_unindented, AllGoOn, no_more, one_goes_on, FirstEnds}
+use Rattle.cm_scan.specs.steps.LineSteps.{by_interruption}
 use Rattle.cm_scan.proofs.lemmas.blocks.PartsByCases.{break_case, heading_case, text_case}
 use Rattle.cm_scan.proofs.lemmas.blocks.SingleBlocks.{unindented_line, run_up_to_its_end}
 use Rattle.cm_source.specs.Inlines.{spelled_content}
-use Rattle.cm_source.specs.Spelling.{in_front, parted_lines, after_space, heading_lines}
+use Rattle.cm_source.specs.Spelling.{break_line, in_front, parted_lines, after_space, heading_lines}
 use Rattle.cm_source.specs.steps.Sources.{is_clean, is_one_line, IsTextLine, AllTextLines, IsParagraphSource, IsHeadingSource}
 use Rattle.cm_source.proofs.lemmas.blocks.SequenceLines.{at, Have, no_lines, a_line, have-first}
 use Rattle.cm_source.proofs.lemmas.blocks.ContinuationsBack.{at_end, before_empty}
@@ -61,44 +62,44 @@ parted-alone (b ∷ bs) h =
 -- Headings
 
 -- what is after the `#` of a heading whose content has this source
-record EndsHashes (behind source : List ℕ) : Type 0 where
-  pub none : run_length 35 behind ≡ 0
-  pub after : after_run 35 behind ≡ behind
-  pub gap : is_at_gap behind ≡ true
-  pub trims : trim behind ≡ trim source
-  pub clean : is_one_line source ≡ true → is_one_line behind ≡ true
+record EndsHashes (beyond source : List ℕ) : Type 0 where
+  pub none : run_length 35 beyond ≡ 0
+  pub after : after_run 35 beyond ≡ beyond
+  pub gap : is_at_gap beyond ≡ true
+  pub trims : trim beyond ≡ trim source
+  pub clean : is_one_line source ≡ true → is_one_line beyond ≡ true
 
 ends-hashes : (content : List Inline) → EndsHashes (after_space content) (spelled_content content)
 unfolding run_length after_run skip
 ends-hashes [] = record { none = refl; after = refl; gap = refl; trims = refl; clean = λ h. refl }
 ends-hashes (i ∷ content) = record { none = refl; after = refl; gap = refl; trims = refl; clean = λ h. h }
 
-hashes-length : (n : ℕ) (behind : List ℕ) → run_length 35 behind ≡ 0 → run_length 35 (replicate n 35 ++ behind) ≡ n
+hashes-length : (n : ℕ) (beyond : List ℕ) → run_length 35 beyond ≡ 0 → run_length 35 (replicate n 35 ++ beyond) ≡ n
 unfolding run_length
-hashes-length zero behind h = h
-hashes-length (suc n) behind h = ap suc (hashes-length n behind h)
+hashes-length zero beyond h = h
+hashes-length (suc n) beyond h = ap suc (hashes-length n beyond h)
 
-hashes-after : (n : ℕ) (behind : List ℕ) → after_run 35 behind ≡ behind → after_run 35 (replicate n 35 ++ behind) ≡ behind
+hashes-after : (n : ℕ) (beyond : List ℕ) → after_run 35 beyond ≡ beyond → after_run 35 (replicate n 35 ++ beyond) ≡ beyond
 unfolding after_run
-hashes-after zero behind h = h
-hashes-after (suc n) behind h = hashes-after n behind h
+hashes-after zero beyond h = h
+hashes-after (suc n) beyond h = hashes-after n beyond h
 
-heading-reads : (n : ℕ) (behind t : List ℕ) → nat_le 1 n ≡ true → nat_le n 6 ≡ true → EndsHashes behind t → IsHeadingSource t → atx_heading (replicate n 35 ++ behind) ≡ Some (record { level = n; content = t })
+heading-reads : (n : ℕ) (beyond t : List ℕ) → nat_le 1 n ≡ true → nat_le n 6 ≡ true → EndsHashes beyond t → IsHeadingSource t → atx_heading (replicate n 35 ++ beyond) ≡ Some (record { level = n; content = t })
 unfolding atx_heading
-heading-reads n behind t low high e h =
-    let text = replicate n 35 ++ behind in
-    ap (λ k. given (nat_le 1 k && nat_le k 6 && is_at_gap (after_run 35 text)) (record { level = k; content = trim (without_closing true (trim (after_run 35 text))) })) (hashes-length n behind e.none)
-    ∙ ap (λ s. given (nat_le 1 n && nat_le n 6 && is_at_gap s) (record { level = n; content = trim (without_closing true (trim s)) })) (hashes-after n behind e.after)
-    ∙ ap (λ v. given (v && nat_le n 6 && is_at_gap behind) (record { level = n; content = trim (without_closing true (trim behind)) })) low
-    ∙ ap (λ v. given (v && is_at_gap behind) (record { level = n; content = trim (without_closing true (trim behind)) })) high
-    ∙ ap (λ v. given v (record { level = n; content = trim (without_closing true (trim behind)) })) e.gap
+heading-reads n beyond t low high e h =
+    let text = replicate n 35 ++ beyond in
+    ap (λ k. given (nat_le 1 k && nat_le k 6 && is_at_gap (after_run 35 text)) (record { level = k; content = trim (without_closing true (trim (after_run 35 text))) })) (hashes-length n beyond e.none)
+    ∙ ap (λ s. given (nat_le 1 n && nat_le n 6 && is_at_gap s) (record { level = n; content = trim (without_closing true (trim s)) })) (hashes-after n beyond e.after)
+    ∙ ap (λ v. given (v && nat_le n 6 && is_at_gap beyond) (record { level = n; content = trim (without_closing true (trim beyond)) })) low
+    ∙ ap (λ v. given (v && is_at_gap beyond) (record { level = n; content = trim (without_closing true (trim beyond)) })) high
+    ∙ ap (λ v. given v (record { level = n; content = trim (without_closing true (trim beyond)) })) e.gap
     ∙ ap (λ s. Some (record { level = n; content = trim (without_closing true s) })) (e.trims ∙ h.trimmed)
     ∙ ap (λ s. Some (record { level = n; content = trim s })) h.unclosed
     ∙ ap (λ s. Some (record { level = n; content = s })) h.trimmed
 
-hash-first : (n : ℕ) (behind : List ℕ) → nat_le 1 n ≡ true → (rest : List ℕ) × (replicate n 35 ++ behind ≡ 35 ∷ rest)
-hash-first zero behind h = absurd (false≢true h)
-hash-first (suc n) behind h = (replicate n 35 ++ behind, refl)
+hash-first : (n : ℕ) (beyond : List ℕ) → nat_le 1 n ≡ true → (rest : List ℕ) × (replicate n 35 ++ beyond ≡ 35 ∷ rest)
+hash-first zero beyond h = absurd (false≢true h)
+hash-first (suc n) beyond h = (replicate n 35 ++ beyond, refl)
 
 bare-not-empty : (t : List ℕ) → is_unindented t ≡ true → is_empty t ≡ false
 bare-not-empty [] h = absurd (false≢true h)
@@ -140,13 +141,13 @@ with-lines-not-empty s (t ∷ ts) h = with-lines-not-empty (s ++ 10 ∷ t) ts (n
 module _ (rules : Rules) where
   -- Breaks
 
-  break-back : (ls rest : List LineView) → Have ls (codes "___" ∷ []) → parts_of rules (ls ++ rest) ≡ leaf thematic_break 1 (parts_of rules rest)
-  unfolding start_of_content atx_heading opening_fence fence_of html_start is_thematic_break item_marker bullet_marker ordered_marker marker_behind run_length after_run skip
-  break-back ls rest (a_line {c = c} no_lines) = let reads = unindented_line rules (at c (codes "___")) refl refl in break_case rules (at c (codes "___")) rest (reads.not_blank, reads.start)
+  break-back : (ls rest : List LineView) → Have ls (break_line ∷ []) → parts_of rules (ls ++ rest) ≡ leaf thematic_break 1 (parts_of rules rest)
+  unfolding start_of_content atx_heading opening_fence fence_of html_start is_thematic_break item_marker bullet_marker ordered_marker marker_after run_length after_run skip
+  break-back ls rest (a_line {c = c} no_lines) = let reads = unindented_line rules (at c break_line) refl refl in break_case rules (at c break_line) rest (reads.not_blank, reads.start)
 
-  pub break-fits : LeafFits rules (record { part = thematic_break; lines = codes "___" ∷ [] })
+  pub break-fits : LeafFits rules (record { part = thematic_break; lines = break_line ∷ [] })
   break-fits = record {
-    inner = record { first = record { line = codes "___"; further = []; lines = refl; bare = refl }; no_dashes = refl; no_stars = refl };
+    inner = record { first = record { line = break_line; further = []; lines = refl; bare = refl }; no_dashes = refl; no_stars = refl };
     back = λ ls rest have follows. break-back ls rest have;
     interrupts = λ h. absurd (false≢true h);
     clean = refl;

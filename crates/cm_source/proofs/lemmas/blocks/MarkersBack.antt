@@ -5,11 +5,12 @@ use Rattle.std.proofs.lemmas.Bool.Decides.{nat_tests}
 use Rattle.std.proofs.lemmas.List.Folds.{list_all-append}
 use Rattle.std.specs.List.{list_all}
 use Rattle.std.specs.Fmt.{decimal}
+use Rattle.std.specs.Char.{is_ascii_digit}
 use Rattle.cm_text.specs.Rules.{Rules}
 use Rattle.cm_tree.specs.declared.tree.ListKind.{ListKind}
 use Rattle.cm_tree.specs.declared.tree.ListKind.TheVariants.{Dash, Plus, Star, Dot, Paren}
-use Rattle.cm_scan.specs.Words.{is_space_or_tab, is_digit, is_at_gap, skip, front_of, run_length, after_run, given, ◌<|>◌}
-use Rattle.cm_scan.specs.blocks.LineForms.{most_digits, atx_heading, underline, opening_fence, fence_of, is_thematic_break, ItemMarker, item_marker, bullet_marker, ordered_marker, marker_behind, marker_at_gap, ordered_kind, is_number, decimal_value}
+use Rattle.cm_scan.specs.Words.{is_space_or_tab, is_at_gap, skip, front_of, run_length, after_run, given, ◌<|>◌}
+use Rattle.cm_scan.specs.blocks.LineForms.{most_digits, atx_heading, underline, opening_fence, fence_of, is_thematic_break, ItemMarker, item_marker, bullet_marker, ordered_marker, marker_after, marker_at_gap, ordered_kind, is_number, decimal_value}
 use Rattle.cm_scan.specs.blocks.HtmlBlocks.{html_start}
 use Rattle.cm_scan.specs.blocks.Starts.{ItemStart, start_of_content}
 use Rattle.cm_scan.specs.laws.BlockLaws.{is_unindented}
@@ -22,23 +23,23 @@ use Rattle.cm_source.proofs.lemmas.blocks.ContinuationsBack.{MarkerReads}
 use Rattle.cm_source.proofs.lemmas.blocks.SequenceFits.{KindFits}
 use Rattle.cm_scan.proofs.lemmas.blocks.QuietStarts.{no-level}
 
-digits-front : (ds : List ℕ) (p : ℕ) (rest : List ℕ) → list_all is_digit ds ≡ true → is_digit p ≡ false → front_of is_digit (ds ++ p ∷ rest) ≡ ds
+digits-front : (ds : List ℕ) (p : ℕ) (rest : List ℕ) → list_all is_ascii_digit ds ≡ true → is_ascii_digit p ≡ false → front_of is_ascii_digit (ds ++ p ∷ rest) ≡ ds
 unfolding front_of
-digits-front [] p rest all e = ap (λ (v : Bool). elim v as (λ _. List ℕ) [ true ↦ p ∷ front_of is_digit rest | false ↦ [] ]) e
+digits-front [] p rest all e = ap (λ (v : Bool). elim v as (λ _. List ℕ) [ true ↦ p ∷ front_of is_ascii_digit rest | false ↦ [] ]) e
 digits-front (d ∷ ds) p rest all e =
-    let (h, more) = and_parts (is_digit d) (list_all is_digit ds) all in
-    ap (λ (v : Bool). elim v as (λ _. List ℕ) [ true ↦ d ∷ front_of is_digit (ds ++ p ∷ rest) | false ↦ [] ]) h
+    let (h, more) = and_parts (is_ascii_digit d) (list_all is_ascii_digit ds) all in
+    ap (λ (v : Bool). elim v as (λ _. List ℕ) [ true ↦ d ∷ front_of is_ascii_digit (ds ++ p ∷ rest) | false ↦ [] ]) h
     ∙ ap (λ l. d ∷ l) (digits-front ds p rest more e)
 
-digits-skip : (ds : List ℕ) (p : ℕ) (rest : List ℕ) → list_all is_digit ds ≡ true → is_digit p ≡ false → skip is_digit (ds ++ p ∷ rest) ≡ p ∷ rest
+digits-skip : (ds : List ℕ) (p : ℕ) (rest : List ℕ) → list_all is_ascii_digit ds ≡ true → is_ascii_digit p ≡ false → skip is_ascii_digit (ds ++ p ∷ rest) ≡ p ∷ rest
 unfolding skip
-digits-skip [] p rest all e = ap (λ (v : Bool). elim v as (λ _. List ℕ) [ true ↦ skip is_digit rest | false ↦ p ∷ rest ]) e
+digits-skip [] p rest all e = ap (λ (v : Bool). elim v as (λ _. List ℕ) [ true ↦ skip is_ascii_digit rest | false ↦ p ∷ rest ]) e
 digits-skip (d ∷ ds) p rest all e =
-    let (h, more) = and_parts (is_digit d) (list_all is_digit ds) all in
-    ap (λ (v : Bool). elim v as (λ _. List ℕ) [ true ↦ skip is_digit (ds ++ p ∷ rest) | false ↦ d ∷ (ds ++ p ∷ rest) ]) h
+    let (h, more) = and_parts (is_ascii_digit d) (list_all is_ascii_digit ds) all in
+    ap (λ (v : Bool). elim v as (λ _. List ℕ) [ true ↦ skip is_ascii_digit (ds ++ p ∷ rest) | false ↦ d ∷ (ds ++ p ∷ rest) ]) h
     ∙ digits-skip ds p rest more e
 
-no-bullet : (d : ℕ) (rest : List ℕ) → is_digit d ≡ true → bullet_marker (d ∷ rest) ≡ None
+no-bullet : (d : ℕ) (rest : List ℕ) → is_ascii_digit d ≡ true → bullet_marker (d ∷ rest) ≡ None
 unfolding bullet_marker
 no-bullet d rest h = grind (arith, h)
 
@@ -46,13 +47,13 @@ width-is : (ds : List ℕ) (p : ℕ) → length (ds ++ p ∷ []) ≡ suc (length
 width-is [] p = refl
 width-is (d ∷ ds) p = ap suc (width-is ds p)
 
-digit-clean : (d : ℕ) → is_digit d ≡ true → (not (d == 0) && (not (d == 10) && not (d == 13))) ≡ true
+digit-clean : (d : ℕ) → is_ascii_digit d ≡ true → (not (d == 0) && (not (d == 10) && not (d == 13))) ≡ true
 digit-clean d h = grind (arith, h)
 
-digits-clean : (ds : List ℕ) → list_all is_digit ds ≡ true → is_one_line ds ≡ true
+digits-clean : (ds : List ℕ) → list_all is_ascii_digit ds ≡ true → is_one_line ds ≡ true
 digits-clean [] h = refl
 digits-clean (d ∷ ds) h =
-    let (first, more) = and_parts (is_digit d) (list_all is_digit ds) h in
+    let (first, more) = and_parts (is_ascii_digit d) (list_all is_ascii_digit ds) h in
     ap (λ v. v && is_one_line ds) (digit-clean d first) ∙ digits-clean ds more
 
 module _ (rules : Rules) where
@@ -84,30 +85,30 @@ module _ (rules : Rules) where
   unfolding underline run_length after_run
   dash-no_underline t b = ap (λ v. given v 2) (unindented_line rules (record { column = 0; text = t; lazy = false }) refl b).not_blank
 
-  digit-starts : (d : ℕ) (rest : List ℕ) (m : ItemMarker) → is_digit d ≡ true → item_marker (d ∷ rest) ≡ Some m → start_of_content rules (d ∷ rest) ≡ ItemStart m
+  digit-starts : (d : ℕ) (rest : List ℕ) (m : ItemMarker) → is_ascii_digit d ≡ true → item_marker (d ∷ rest) ≡ Some m → start_of_content rules (d ∷ rest) ≡ ItemStart m
   unfolding start_of_content atx_heading opening_fence fence_of html_start is_thematic_break run_length after_run
   digit-starts d rest m h e = grind (arith, h, e)
 
   -- digits and what is after them
-  module _ (ds : List ℕ) (p : ℕ) (kind : ListKind) (all : list_all is_digit ds ≡ true) (short : is_number ds ≡ true) (other : is_digit p ≡ false) (kind-is : ordered_kind (decimal_value ds) p ≡ Some kind) where
+  module _ (ds : List ℕ) (p : ℕ) (kind : ListKind) (all : list_all is_ascii_digit ds ≡ true) (short : is_number ds ≡ true) (other : is_ascii_digit p ≡ false) (kind-is : ordered_kind (decimal_value ds) p ≡ Some kind) where
     number-marker : ItemMarker
     number-marker = record { kind = kind; digits = length ds }
 
     ordered-is : (rest : List ℕ) → is_at_gap rest ≡ true → ordered_marker (ds ++ p ∷ rest) ≡ Some number-marker
-    unfolding ordered_marker marker_behind number-marker
+    unfolding ordered_marker marker_after number-marker
     ordered-is rest gap =
-        ap (λ f. marker_behind f (skip is_digit (ds ++ p ∷ rest))) (digits-front ds p rest all other)
-        ∙ ap (marker_behind ds) (digits-skip ds p rest all other)
+        ap (λ f. marker_after f (skip is_ascii_digit (ds ++ p ∷ rest))) (digits-front ds p rest all other)
+        ∙ ap (marker_after ds) (digits-skip ds p rest all other)
         ∙ ap (λ (v : Bool). elim v as (λ _. Option ItemMarker) [ true ↦ marker_at_gap (ordered_kind (decimal_value ds) p) (length ds) rest | false ↦ None ]) short
         ∙ ap (λ k. marker_at_gap k (length ds) rest) kind-is
         ∙ ap (λ v. given v (record { kind = kind; digits = length ds })) gap
 
-    some-digit : (d : ℕ) × (more : List ℕ) × (ds ≡ d ∷ more) × (is_digit d ≡ true)
+    some-digit : (d : ℕ) × (more : List ℕ) × (ds ≡ d ∷ more) × (is_ascii_digit d ≡ true)
     some-digit = go ds all short
       where
-        go : (ds : List ℕ) → list_all is_digit ds ≡ true → is_number ds ≡ true → (d : ℕ) × (more : List ℕ) × (ds ≡ d ∷ more) × (is_digit d ≡ true)
+        go : (ds : List ℕ) → list_all is_ascii_digit ds ≡ true → is_number ds ≡ true → (d : ℕ) × (more : List ℕ) × (ds ≡ d ∷ more) × (is_ascii_digit d ≡ true)
         go [] a s = absurd (false≢true s)
-        go (d ∷ more) a s = (d, more, refl, (and_parts (is_digit d) (list_all is_digit more) a).0)
+        go (d ∷ more) a s = (d, more, refl, (and_parts (is_ascii_digit d) (list_all is_ascii_digit more) a).0)
 
     number-starts : (rest : List ℕ) → is_at_gap rest ≡ true → start_of_content rules (ds ++ p ∷ rest) ≡ ItemStart number-marker
     unfolding item_marker
@@ -122,7 +123,7 @@ module _ (rules : Rules) where
         let (d, more, e, h) = some-digit in
         ap (λ l. is_unindented (l ++ p ∷ [])) e ∙ digit-bare d h
       where
-        digit-bare : (d : ℕ) → is_digit d ≡ true → not (is_space_or_tab d) ≡ true
+        digit-bare : (d : ℕ) → is_ascii_digit d ≡ true → not (is_space_or_tab d) ≡ true
         digit-bare d h = grind (arith, h)
 
     number-no_underline : (rest : List ℕ) → underline (ds ++ p ∷ rest) ≡ None

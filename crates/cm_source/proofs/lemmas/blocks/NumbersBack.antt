@@ -7,11 +7,11 @@ use Rattle.std.proofs.lemmas.Str.Parse.{IsDigitsTest, IsNumeralModel, FoldsDigit
 use Rattle.std.specs.Prelude.{nat_le, ◌&&◌}
 use Rattle.std.specs.List.{list_all, fold}
 use Rattle.std.specs.Fmt.{decimal}
-use Rattle.cm_scan.specs.Words.{is_digit}
+use Rattle.std.specs.Char.{is_ascii_digit}
 use Rattle.cm_scan.specs.blocks.LineForms.{most_digits, is_number, decimal_value}
 
 AreDigits : List ℕ → Type 0
-AreDigits ds = list_all is_digit ds ≡ true
+AreDigits ds = list_all is_ascii_digit ds ≡ true
 
 value_after : ℕ → List ℕ → ℕ
 value_after n ds = fold (λ n b. n * 10 + (b - 48)) n ds
@@ -20,8 +20,8 @@ tells : IsDigitsTest AreDigits
 unfolding AreDigits
 tells = record {
   empty = refl;
-  parts = λ c cs h. (let d = (and_parts (is_digit c) (list_all is_digit cs) h).0 in grind (arith, nat_tests, d), (and_parts (is_digit c) (list_all is_digit cs) h).1);
-  more = λ c cs r h. let d : is_digit c ≡ true = grind (arith, nat_tests, r) in ap (λ v. v && list_all is_digit cs) d ∙ h;
+  parts = λ c cs h. (let d = (and_parts (is_ascii_digit c) (list_all is_ascii_digit cs) h).0 in grind (arith, nat_tests, d), (and_parts (is_ascii_digit c) (list_all is_ascii_digit cs) h).1);
+  more = λ c cs r h. let d : is_ascii_digit c ≡ true = grind (arith, nat_tests, r) in ap (λ v. v && list_all is_ascii_digit cs) d ∙ h;
 }
 
 folds : FoldsDigits value_after
@@ -35,7 +35,7 @@ module _ (n : ℕ) (small : n < 10 ^ most_digits) where
   small_enough : n < 2 ^ 64
   small_enough = omega (arith, small)
 
-  pub digits-are : list_all is_digit (decimal n) ≡ true
+  pub digits-are : list_all is_ascii_digit (decimal n) ≡ true
   unfolding AreDigits
   digits-are = digits_decimal model n small_enough
 

@@ -72,27 +72,27 @@ alone-tight (leaf_then x rest) h = or_left (is_none rest) (is_paragraph x.part &
 alone-tight (quote_then inside rest) h = h
 alone-tight (list_then k t is rest) h = (and_parts (is_none rest) (starts_at_one k) (and_parts (is_none rest && starts_at_one k) (not (is_none (first_inside is))) h).0).0
 
-tight-behind : (a : Bool) (rest : Sequence) → (a || is_none rest) ≡ true → (a || fits_tight rest) ≡ true
-tight-behind true rest h = refl
-tight-behind false rest h = none-tight rest h
+tight-beyond : (a : Bool) (rest : Sequence) → (a || is_none rest) ≡ true → (a || fits_tight rest) ≡ true
+tight-beyond true rest h = refl
+tight-beyond false rest h = none-tight rest h
 
-tight-behind-leaf : (a : Bool) (x : SpelledLeaf) (rest : Sequence) → (a || (is_none rest || is_paragraph x.part && interrupts_alone rest)) ≡ true → (a || fits_tight rest) ≡ true
-tight-behind-leaf true x rest h = refl
-tight-behind-leaf false x no_blocks h = refl
-tight-behind-leaf false x (leaf_then y rest) h = alone-tight (leaf_then y rest) (and_parts (is_paragraph x.part) (interrupts_alone (leaf_then y rest)) h).1
-tight-behind-leaf false x (quote_then inside rest) h = alone-tight (quote_then inside rest) (and_parts (is_paragraph x.part) (interrupts_alone (quote_then inside rest)) h).1
-tight-behind-leaf false x (list_then k t is rest) h = alone-tight (list_then k t is rest) (and_parts (is_paragraph x.part) (interrupts_alone (list_then k t is rest)) h).1
+tight-beyond-leaf : (a : Bool) (x : SpelledLeaf) (rest : Sequence) → (a || (is_none rest || is_paragraph x.part && interrupts_alone rest)) ≡ true → (a || fits_tight rest) ≡ true
+tight-beyond-leaf true x rest h = refl
+tight-beyond-leaf false x no_blocks h = refl
+tight-beyond-leaf false x (leaf_then y rest) h = alone-tight (leaf_then y rest) (and_parts (is_paragraph x.part) (interrupts_alone (leaf_then y rest)) h).1
+tight-beyond-leaf false x (quote_then inside rest) h = alone-tight (quote_then inside rest) (and_parts (is_paragraph x.part) (interrupts_alone (quote_then inside rest)) h).1
+tight-beyond-leaf false x (list_then k t is rest) h = alone-tight (list_then k t is rest) (and_parts (is_paragraph x.part) (interrupts_alone (list_then k t is rest)) h).1
 
-apart-behind : (a e : Bool) (rest : Sequence) (tail : List LineView) → (a || is_none rest) ≡ true → Have tail (gap (gap_before a e rest) ++ block_lines a e rest) → Apart tail
+apart-beyond : (a e : Bool) (rest : Sequence) (tail : List LineView) → (a || is_none rest) ≡ true → Have tail (gap (gap_before a e rest) ++ block_lines a e rest) → Apart tail
 unfolding block_lines
-apart-behind a true no_blocks tail h (a_line have) = before_empty
-apart-behind a false no_blocks tail h no_lines = at_end
-apart-behind true e (leaf_then x rest) tail h (a_line have) = before_empty
-apart-behind true e (quote_then inside rest) tail h (a_line have) = before_empty
-apart-behind true e (list_then k t is rest) tail h (a_line have) = before_empty
-apart-behind false e (leaf_then x rest) tail h have = absurd (false≢true h)
-apart-behind false e (quote_then inside rest) tail h have = absurd (false≢true h)
-apart-behind false e (list_then k t is rest) tail h have = absurd (false≢true h)
+apart-beyond a true no_blocks tail h (a_line have) = before_empty
+apart-beyond a false no_blocks tail h no_lines = at_end
+apart-beyond true e (leaf_then x rest) tail h (a_line have) = before_empty
+apart-beyond true e (quote_then inside rest) tail h (a_line have) = before_empty
+apart-beyond true e (list_then k t is rest) tail h (a_line have) = before_empty
+apart-beyond false e (leaf_then x rest) tail h have = absurd (false≢true h)
+apart-beyond false e (quote_then inside rest) tail h have = absurd (false≢true h)
+apart-beyond false e (list_then k t is rest) tail h have = absurd (false≢true h)
 
 put-more : (kind : ListKind) (v : Bool) (p q : Parts) (items : ItemParts) → put_item kind p (blank_if v (list kind items q)) ≡ list kind (item p (one_if v) items) q
 put-more kind true p q items = item_before_its_list kind kind 1 p q items (kind_of_itself kind)
@@ -258,18 +258,18 @@ module _ (rules : Rules) where
       interrupts-append _ (interrupts-append _ (items-interrupt k fit.0.reads t is one some fit.1))
 
   -- a block that follows a paragraph without an empty line
-  right-behind : (x : SpelledLeaf) (e : Bool) (rest : Sequence) (tail : List LineView) → (is_paragraph x.part && interrupts_alone rest) ≡ true → FitAll rules rest → Have tail (block_lines false e rest) → Follows rules x.part tail
-  right-behind x e rest tail h fit have =
+  right-beyond : (x : SpelledLeaf) (e : Bool) (rest : Sequence) (tail : List LineView) → (is_paragraph x.part && interrupts_alone rest) ≡ true → FitAll rules rest → Have tail (block_lines false e rest) → Follows rules x.part tail
+  right-beyond x e rest tail h fit have =
       let (first, second) = and_parts (is_paragraph x.part) (interrupts_alone rest) h in
       follow-close x.part (block_lines false e rest) tail first (interrupting rest false e second fit) have
 
   follow : (x : SpelledLeaf) (a e : Bool) (rest : Sequence) (tail : List LineView) → (a || (is_none rest || is_paragraph x.part && interrupts_alone rest)) ≡ true → FitAll rules rest
       → Have tail (gap (gap_before a e rest) ++ block_lines a e rest) → Follows rules x.part tail
-  follow x true e rest tail h fit have = apart_from (apart-behind true e rest tail refl have)
-  follow x false e no_blocks tail h fit have = apart_from (apart-behind false e no_blocks tail refl have)
-  follow x false e (leaf_then y rest) tail h fit have = right-behind x e (leaf_then y rest) tail h fit have
-  follow x false e (quote_then inside rest) tail h fit have = right-behind x e (quote_then inside rest) tail h fit have
-  follow x false e (list_then k t is rest) tail h fit have = right-behind x e (list_then k t is rest) tail h fit have
+  follow x true e rest tail h fit have = apart_from (apart-beyond true e rest tail refl have)
+  follow x false e no_blocks tail h fit have = apart_from (apart-beyond false e no_blocks tail refl have)
+  follow x false e (leaf_then y rest) tail h fit have = right-beyond x e (leaf_then y rest) tail h fit have
+  follow x false e (quote_then inside rest) tail h fit have = right-beyond x e (quote_then inside rest) tail h fit have
+  follow x false e (list_then k t is rest) tail h fit have = right-beyond x e (list_then k t is rest) tail h fit have
 
   after-list : (a e : Bool) (rest : Sequence) (tail : List LineView) → (a || is_none rest) ≡ true → FitAll rules rest → Have tail (block_lines a e rest) → After rules (gap_before a e rest) tail
   unfolding block_lines
@@ -303,17 +303,17 @@ module _ (rules : Rules) where
         let (own, tail, eq, mine, its) = have-split x.lines (gap (gap_before a e rest) ++ block_lines a e rest) ls (subst (Have ls) (append_assoc x.lines (gap (gap_before a e rest)) (block_lines a e rest)) have) in
         ap (parts_of rules) eq
         ∙ fit.0.back own tail mine (follow x a e rest tail ok fit.1 its)
-        ∙ ap (leaf x.part (leaf_size x.part)) (parts-blank_if (gap_before a e rest) tail (block_lines a e rest) (concrete a e rest) its (λ ms h. back rest a e ms fit.1 (tight-behind-leaf a x rest ok) h))
+        ∙ ap (leaf x.part (leaf_size x.part)) (parts-blank_if (gap_before a e rest) tail (block_lines a e rest) (concrete a e rest) its (λ ms h. back rest a e ms fit.1 (tight-beyond-leaf a x rest ok) h))
     back (quote_then inside rest) a e ls fit ok have =
         let front = quote_lines (block_lines true false inside) in
         let (own, tail, eq, mine, its) = have-split front (gap (gap_before a e rest) ++ block_lines a e rest) ls (subst (Have ls) (append_assoc front (gap (gap_before a e rest)) (block_lines a e rest)) have) in
         ap (parts_of rules) eq
-        ∙ whole-quote inside own tail fit.0 (λ inner h. back inside true false inner fit.0 refl h) mine (apart-behind a e rest tail ok its)
-        ∙ ap (quote (or_blank inside (concrete true false inside))) (parts-blank_if (gap_before a e rest) tail (block_lines a e rest) (concrete a e rest) its (λ ms h. back rest a e ms fit.1 (tight-behind a rest ok) h))
+        ∙ whole-quote inside own tail fit.0 (λ inner h. back inside true false inner fit.0 refl h) mine (apart-beyond a e rest tail ok its)
+        ∙ ap (quote (or_blank inside (concrete true false inside))) (parts-blank_if (gap_before a e rest) tail (block_lines a e rest) (concrete a e rest) its (λ ms h. back rest a e ms fit.1 (tight-beyond a rest ok) h))
     back (list_then kind tight items rest) a e ls fit ok have =
         let g = gap_before a e rest in
         let (own, tail, eq, mine, its) = have-split (lines_of_items kind tight items ++ gap g) (block_lines a e rest) ls have in
-        let reads : parts_of rules tail ≡ concrete a e rest = back rest a e tail fit.4 (tight-behind a rest ok) its in
+        let reads : parts_of rules tail ≡ concrete a e rest = back rest a e tail fit.4 (tight-beyond a rest ok) its in
         ap (parts_of rules) eq
         ∙ items-back items kind fit.0.reads tight g own tail fit.1 mine (after-list a e rest tail ok fit.4 its)
         (ap (λ q. next_items kind 0 (blank_if (g && last_is_bare items) q)) reads ∙ next-none kind (g && last_is_bare items) a e rest fit.3)

@@ -6,7 +6,7 @@ use Rattle.cm_tree.specs.declared.tree.ListKind.TheVariants.{Dash, Plus, Star, D
 use Rattle.cm_scan.specs.blocks.LineForms.{is_same_kind}
 use Rattle.cm_scan.specs.blocks.Starts.{starts_at_one}
 use Rattle.cm_scan.specs.blocks.Parts.{LeafPart, paragraph, heading, code, html, thematic_break, definition}
-use Rattle.cm_source.specs.Refusals.{BlockFace, ParagraphFace, CodeBlockFace, QuoteFace, ListFace, OtherBlockFace, is_list, begins_late, can_follow, is_tight_item, has_two, is_behind_same}
+use Rattle.cm_source.specs.Refusals.{BlockFace, ParagraphFace, CodeBlockFace, QuoteFace, ListFace, OtherBlockFace, is_list, begins_late, can_follow, is_tight_item, has_two, is_after_same}
 use Rattle.cm_source.specs.steps.Sequences.{Sequence, is_none, no_blocks, leaf_then, quote_then, list_then, is_paragraph, is_code, first_inside, interrupts_alone, fits_tight, has_two_blocks, begins_with_list, begins_with_kind}
 
 abbrev pub leaf_face : LeafPart → BlockFace
@@ -22,7 +22,7 @@ faces_of (list_then kind tight items rest) = ListFace kind (not (is_none (first_
 
 -- a list comes first, and one of its kind is right before
 abbrev pub clashes : (before : Option BlockFace) → List BlockFace → Bool
-clashes before (ListFace kind filled ∷ others) = is_behind_same kind before
+clashes before (ListFace kind filled ∷ others) = is_after_same kind before
 clashes before _ = false
 
 pub no-faces : (o : Sequence) → faces_of o ≡ [] → is_none o ≡ true
@@ -41,13 +41,13 @@ some-face (list_then kind tight items rest) face others h = refl
 
 pub has-two : (o : Sequence) → has_two (faces_of o) ≡ has_two_blocks o
 has-two no_blocks = refl
-has-two (leaf_then x rest) = behind (leaf_face x.part) rest
+has-two (leaf_then x rest) = beyond (leaf_face x.part) rest
   where
-    behind : (face : BlockFace) (rest : Sequence) → has_two (face ∷ faces_of rest) ≡ not (is_none rest)
-    behind face no_blocks = refl
-    behind face (leaf_then x rest) = refl
-    behind face (quote_then inside rest) = refl
-    behind face (list_then kind tight items rest) = refl
+    beyond : (face : BlockFace) (rest : Sequence) → has_two (face ∷ faces_of rest) ≡ not (is_none rest)
+    beyond face no_blocks = refl
+    beyond face (leaf_then x rest) = refl
+    beyond face (quote_then inside rest) = refl
+    beyond face (list_then kind tight items rest) = refl
 has-two (quote_then inside no_blocks) = refl
 has-two (quote_then inside (leaf_then x rest)) = refl
 has-two (quote_then inside (quote_then more rest)) = refl

@@ -4,7 +4,7 @@ use Rattle.std.specs.Prelude.{replicate}
 use Rattle.cm_text.specs.Lines.{LineView}
 use Rattle.cm_text.specs.Indentation.{indent_of, strip_columns}
 use Rattle.cm_text.proofs.lemmas.ViewLemmas.{spaces_are_columns, spaces_are_stripped}
-use Rattle.cm_scan.specs.blocks.Starts.{behind_quote_marker}
+use Rattle.cm_scan.specs.blocks.Starts.{after_quote_marker}
 use Rattle.cm_scan.proofs.lemmas.blocks.SingleBlocks.{quote_and_space, quote_alone}
 use Rattle.cm_source.specs.Spelling.{quoted, indented}
 
@@ -35,6 +35,6 @@ strip-indented n c [] = (c, refl)
 strip-indented n c (b ∷ t) = (c + n, spaces_are_stripped n (at c (b ∷ t)))
 
 -- after the marker of a quote
-pub behind-quote : (c : ℕ) (t : List ℕ) → (d : ℕ) × (behind_quote_marker (at c (quoted t)) ≡ at d t)
-behind-quote c [] = (c + 1, quote_alone (at c (quoted [])) refl)
-behind-quote c (b ∷ t) = (c + 2, quote_and_space (at c (quoted (b ∷ t))) (b ∷ t) refl)
+pub beyond-quote : (c : ℕ) (t : List ℕ) → (d : ℕ) × (after_quote_marker (at c (quoted t)) ≡ at d t)
+beyond-quote c [] = (c + 1, quote_alone (at c (quoted [])) refl)
+beyond-quote c (b ∷ t) = (c + 2, quote_and_space (at c (quoted (b ∷ t))) (b ∷ t) refl)

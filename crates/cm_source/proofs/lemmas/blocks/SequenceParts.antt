@@ -29,13 +29,13 @@ one_if true = 1
 one_if false = 0
 
 unfoldable mutual
-  pub concrete : (apart behind_last : Bool) → Sequence → Parts
+  pub concrete : (apart beyond_last : Bool) → Sequence → Parts
   concrete a e no_blocks = none
   concrete a e (leaf_then x rest) = leaf x.part (leaf_size x.part) (blank_if (gap_before a e rest) (concrete a e rest))
   concrete a e (quote_then inside rest) = quote (or_blank inside (concrete true false inside)) (blank_if (gap_before a e rest) (concrete a e rest))
   concrete a e (list_then kind tight items rest) = list kind (concrete_items tight (gap_before a e rest) items) (blank_if (gap_before a e rest && last_is_bare items) (concrete a e rest))
 
-  pub concrete_items : (tight behind_last : Bool) → SequenceItems → ItemParts
+  pub concrete_items : (tight beyond_last : Bool) → SequenceItems → ItemParts
   concrete_items tight e (last_one inside) = last_item (or_blank inside (concrete (not tight) e inside))
   concrete_items tight e (one_and inside items) = item (or_blank inside (concrete (not tight) (not tight) inside)) (one_if (not tight && is_none inside)) (concrete_items tight e items)
 
@@ -47,17 +47,17 @@ or-blank-is (list_then k t is rest) p h = refl
 
 -- With an empty line after them the blocks leave no paragraph open.
 
-behind-closed : (a b v : Bool) (rest : Sequence) → ((b : Bool) → is_none rest ≡ false → leaves_open_after b (concrete a true rest) ≡ false)
+beyond-closed : (a b v : Bool) (rest : Sequence) → ((b : Bool) → is_none rest ≡ false → leaves_open_after b (concrete a true rest) ≡ false)
     → (is_none rest ≡ true → v ≡ false → b ≡ false) → leaves_open_after b (blank_if v (concrete a true rest)) ≡ false
 unfolding concrete leaves_open_after
-behind-closed a b true no_blocks ih last = refl
-behind-closed a b false no_blocks ih last = last refl refl
-behind-closed a b true (leaf_then x rest) ih last = ih false refl
-behind-closed a b false (leaf_then x rest) ih last = ih b refl
-behind-closed a b true (quote_then inside rest) ih last = ih false refl
-behind-closed a b false (quote_then inside rest) ih last = ih b refl
-behind-closed a b true (list_then k t is rest) ih last = ih false refl
-behind-closed a b false (list_then k t is rest) ih last = ih b refl
+beyond-closed a b true no_blocks ih last = refl
+beyond-closed a b false no_blocks ih last = last refl refl
+beyond-closed a b true (leaf_then x rest) ih last = ih false refl
+beyond-closed a b false (leaf_then x rest) ih last = ih b refl
+beyond-closed a b true (quote_then inside rest) ih last = ih false refl
+beyond-closed a b false (quote_then inside rest) ih last = ih b refl
+beyond-closed a b true (list_then k t is rest) ih last = ih false refl
+beyond-closed a b false (list_then k t is rest) ih last = ih b refl
 
 gap-last : (a e : Bool) (rest : Sequence) → is_none rest ≡ true → gap_before a e rest ≡ e
 gap-last a e no_blocks h = refl
@@ -73,11 +73,11 @@ mutual
 
   pub closed : (a b : Bool) (o : Sequence) → is_none o ≡ false → leaves_open_after b (concrete a true o) ≡ false
   closed a b no_blocks h = absurd (false≢true (sym h))
-  closed a b (leaf_then x rest) h = behind-closed a (is_open_leaf x.part) (gap_before a true rest) rest (λ b h. closed a b rest h) (λ n k. true-is _ (gap-last a true rest n) k)
+  closed a b (leaf_then x rest) h = beyond-closed a (is_open_leaf x.part) (gap_before a true rest) rest (λ b h. closed a b rest h) (λ n k. true-is _ (gap-last a true rest n) k)
   closed a b (quote_then inside rest) h =
-      behind-closed a (leaves_open_after false (or_blank inside (concrete true false inside))) (gap_before a true rest) rest (λ b h. closed a b rest h) (λ n k. true-is _ (gap-last a true rest n) k)
+      beyond-closed a (leaves_open_after false (or_blank inside (concrete true false inside))) (gap_before a true rest) rest (λ b h. closed a b rest h) (λ n k. true-is _ (gap-last a true rest n) k)
   closed a b (list_then kind tight items rest) h =
-      behind-closed a (items_leave_open (concrete_items tight (gap_before a true rest) items)) (gap_before a true rest && last_is_bare items) rest (λ b h. closed a b rest h)
+      beyond-closed a (items_leave_open (concrete_items tight (gap_before a true rest) items)) (gap_before a true rest && last_is_bare items) rest (λ b h. closed a b rest h)
       (λ n k. ap (λ g. items_leave_open (concrete_items tight g items)) (gap-last a true rest n)
       ∙ items-closed tight items (ap (λ g. g && last_is_bare items) (sym (gap-last a true rest n)) ∙ k))
 
@@ -87,17 +87,17 @@ mutual
 
 -- The last line is blank exactly if an empty line follows.
 
-behind-ends : (a e b v : Bool) (rest : Sequence) → ((b : Bool) → is_none rest ≡ false → ends_blank_after b (concrete a e rest) ≡ e)
+beyond-ends : (a e b v : Bool) (rest : Sequence) → ((b : Bool) → is_none rest ≡ false → ends_blank_after b (concrete a e rest) ≡ e)
     → (is_none rest ≡ true → v ≡ true → e ≡ true) → (is_none rest ≡ true → v ≡ false → b ≡ e) → ends_blank_after b (blank_if v (concrete a e rest)) ≡ e
 unfolding concrete ends_blank_after
-behind-ends a e b true no_blocks ih known last = sym (known refl refl)
-behind-ends a e b false no_blocks ih known last = last refl refl
-behind-ends a e b true (leaf_then x rest) ih known last = ih true refl
-behind-ends a e b false (leaf_then x rest) ih known last = ih b refl
-behind-ends a e b true (quote_then inside rest) ih known last = ih true refl
-behind-ends a e b false (quote_then inside rest) ih known last = ih b refl
-behind-ends a e b true (list_then k t is rest) ih known last = ih true refl
-behind-ends a e b false (list_then k t is rest) ih known last = ih b refl
+beyond-ends a e b true no_blocks ih known last = sym (known refl refl)
+beyond-ends a e b false no_blocks ih known last = last refl refl
+beyond-ends a e b true (leaf_then x rest) ih known last = ih true refl
+beyond-ends a e b false (leaf_then x rest) ih known last = ih b refl
+beyond-ends a e b true (quote_then inside rest) ih known last = ih true refl
+beyond-ends a e b false (quote_then inside rest) ih known last = ih b refl
+beyond-ends a e b true (list_then k t is rest) ih known last = ih true refl
+beyond-ends a e b false (list_then k t is rest) ih known last = ih b refl
 
 inside-ends : (a e : Bool) (o : Sequence) → ((b : Bool) → is_none o ≡ false → ends_blank_after b (concrete a e o) ≡ e) → items_end_blank (last_item (or_blank o (concrete a e o))) ≡ (e && not (is_none o))
 unfolding items_end_blank ends_blank_after concrete
@@ -120,10 +120,10 @@ mutual
 
   pub ends : (a e b : Bool) (o : Sequence) → is_none o ≡ false → ends_blank_after b (concrete a e o) ≡ e
   ends a e b no_blocks h = absurd (false≢true (sym h))
-  ends a e b (leaf_then x rest) h = behind-ends a e false (gap_before a e rest) rest (λ b h. ends a e b rest h) (λ n k. sym (gap-last a e rest n) ∙ k) (λ n k. sym k ∙ gap-last a e rest n)
-  ends a e b (quote_then inside rest) h = behind-ends a e false (gap_before a e rest) rest (λ b h. ends a e b rest h) (λ n k. sym (gap-last a e rest n) ∙ k) (λ n k. sym k ∙ gap-last a e rest n)
+  ends a e b (leaf_then x rest) h = beyond-ends a e false (gap_before a e rest) rest (λ b h. ends a e b rest h) (λ n k. sym (gap-last a e rest n) ∙ k) (λ n k. sym k ∙ gap-last a e rest n)
+  ends a e b (quote_then inside rest) h = beyond-ends a e false (gap_before a e rest) rest (λ b h. ends a e b rest h) (λ n k. sym (gap-last a e rest n) ∙ k) (λ n k. sym k ∙ gap-last a e rest n)
   ends a e b (list_then kind tight items rest) h =
-      behind-ends a e (items_end_blank (concrete_items tight (gap_before a e rest) items)) (gap_before a e rest && last_is_bare items) rest (λ b h. ends a e b rest h)
+      beyond-ends a e (items_end_blank (concrete_items tight (gap_before a e rest) items)) (gap_before a e rest && last_is_bare items) rest (λ b h. ends a e b rest h)
       (λ n k. sym (gap-last a e rest n) ∙ (and_parts (gap_before a e rest) (last_is_bare items) k).0)
       (λ n k. ap (λ g. items_end_blank (concrete_items tight g items)) (gap-last a e rest n)
       ∙ items-end tight e items
@@ -176,18 +176,18 @@ second-block e before (leaf_then x rest) h = refl
 second-block e before (quote_then inside rest) h = refl
 second-block e before (list_then k t is rest) h = refl
 
-loose-behind : (e : Bool) (rest : Sequence) → not (is_none rest) ≡ true → is_separated true false (blank_if (gap_before true e rest) (concrete true e rest)) ≡ true
+loose-beyond : (e : Bool) (rest : Sequence) → not (is_none rest) ≡ true → is_separated true false (blank_if (gap_before true e rest) (concrete true e rest)) ≡ true
 unfolding is_separated
-loose-behind e no_blocks h = absurd (false≢true h)
-loose-behind e (leaf_then x rest) h = second-block e false (leaf_then x rest) refl
-loose-behind e (quote_then inside rest) h = second-block e false (quote_then inside rest) refl
-loose-behind e (list_then k t is rest) h = second-block e false (list_then k t is rest) refl
+loose-beyond e no_blocks h = absurd (false≢true h)
+loose-beyond e (leaf_then x rest) h = second-block e false (leaf_then x rest) refl
+loose-beyond e (quote_then inside rest) h = second-block e false (quote_then inside rest) refl
+loose-beyond e (list_then k t is rest) h = second-block e false (list_then k t is rest) refl
 
 loose-inside : (e : Bool) (o : Sequence) → has_two_blocks o ≡ true → begins_with_list o ≡ false → is_separated false false (or_blank o (concrete true e o)) ≡ true
 unfolding concrete is_separated
 loose-inside e no_blocks h k = absurd (false≢true h)
-loose-inside e (leaf_then x rest) h k = loose-behind e rest h
-loose-inside e (quote_then inside rest) h k = loose-behind e rest h
+loose-inside e (leaf_then x rest) h k = loose-beyond e rest h
+loose-inside e (quote_then inside rest) h k = loose-beyond e rest h
 loose-inside e (list_then kind t is rest) h k = absurd (false≢true (sym k))
 
 or-third : (x y v z : Bool) → v ≡ true → (x || y || v || z) ≡ true

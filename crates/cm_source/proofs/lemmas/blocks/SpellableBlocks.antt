@@ -1,5 +1,5 @@
 -- The blocks of a tree that can be spelled are a sequence which fits, with the same lines.
-use Rattle.std.proofs.Common.{◌≡◌, ℕ, ◌&&◌, ◌||◌, not, Bool, true, false, List, [], ◌∷◌, ◌++◌, map, codes, refl, sym, ◌∙◌, ap, subst, Option, Some, None, append_assoc, append-nil}
+use Rattle.std.proofs.Common.{◌≡◌, ℕ, ◌&&◌, ◌||◌, not, Bool, true, false, List, [], ◌∷◌, ◌++◌, map, refl, sym, ◌∙◌, ap, subst, Option, Some, None, append_assoc, append-nil}
 use Rattle.std.proofs.lemmas.Bool.{false≢true, and_parts, or_parts, not-false}
 use Rattle.std.specs.Prelude.{nat_le, flat_map}
 use Rattle.std.specs.List.{list_any, list_all}
@@ -19,9 +19,9 @@ use Rattle.cm_source.specs.declared.why.Why.TheVariants.{Definition, Nul, Shape,
 use Rattle.cm_source.specs.Inlines.{spelled_content}
 use Rattle.cm_source.specs.InlineRefusals.{refused, has_nul, paragraph_refusal, heading_refusal}
 use Rattle.cm_source.specs.Refusals as refusals
-use Rattle.cm_source.specs.Refusals.{BlockFace, ListFace, JudgedBlock, faces, is_filled, is_list, is_tight_item, is_as_said, has_two, is_html_block, is_code_text, code_reasons, judged_block, refusal_of_all, refusal_of_items, is_behind_same, begins_too_high, list_reasons}
+use Rattle.cm_source.specs.Refusals.{BlockFace, ListFace, JudgedBlock, faces, is_filled, is_list, is_tight_item, is_as_said, has_two, is_html_block, is_code_text, code_reasons, judged_block, refusal_of_all, refusal_of_items, is_after_same, begins_too_high, list_reasons}
 use Rattle.cm_source.specs.Spelling as spelling
-use Rattle.cm_source.specs.Spelling.{gap, joined, quote_lines, marker, item_lines, list_lines, lines_of_block}
+use Rattle.cm_source.specs.Spelling.{break_line, gap, joined, quote_lines, marker, item_lines, list_lines, lines_of_block}
 use Rattle.cm_source.specs.ReadingBack.{source_step, sourced}
 use Rattle.cm_source.specs.steps.Sources.{ContentsGiveSources}
 use Rattle.cm_source.specs.steps.Sequences.{SpelledLeaf, Sequence, is_none, no_blocks, leaf_then, quote_then, list_then, tree, items_tree, gap_before, block_lines, lines_of_items, first_inside, fits_tight, can_be_loose, begins_with_list, chain, chain_items, sequence_step, in_front_of}
@@ -36,11 +36,11 @@ use Rattle.cm_source.proofs.lemmas.blocks.HtmlBack.{html-fits}
 
 -- Lines
 
-abbrev behind : Bool → List (List (List ℕ)) → List (List ℕ)
-behind apart others = flat_map (λ lines. gap apart ++ lines) others
+abbrev beyond : Bool → List (List (List ℕ)) → List (List ℕ)
+beyond apart others = flat_map (λ lines. gap apart ++ lines) others
 
 joined-more : (apart : Bool) (l m : List (List ℕ)) (ms : List (List (List ℕ))) → (l ++ gap apart) ++ joined apart (m ∷ ms) ≡ joined apart (l ∷ m ∷ ms)
-joined-more apart l m ms = append_assoc l (gap apart) (m ++ behind apart ms) ∙ ap (λ t. l ++ t) (sym (append_assoc (gap apart) m (behind apart ms)))
+joined-more apart l m ms = append_assoc l (gap apart) (m ++ beyond apart ms) ∙ ap (λ t. l ++ t) (sym (append_assoc (gap apart) m (beyond apart ms)))
 
 gap-some : (a e : Bool) (o : Sequence) → is_none o ≡ false → gap_before a e o ≡ a
 gap-some a e no_blocks h = absurd (false≢true (sym h))
@@ -218,7 +218,7 @@ module _ (rules : Rules) where
   record ListStands (kind : ListKind) (tight : Bool) (jss : List (List JudgedBlock)) (before : Option BlockFace) : Type 0 where
     pub some : list_any (λ (item : List BlockFace). true) (map faces jss) ≡ true
     pub low : begins_too_high kind ≡ false
-    pub apart : is_behind_same kind before ≡ false
+    pub apart : is_after_same kind before ≡ false
     pub no_lists : list_any is_list (map faces jss) ≡ false
     pub said : is_as_said tight (map faces jss) ≡ true
     pub inside : refusal_of_items jss ≡ None
@@ -305,7 +305,7 @@ module _ (rules : Rules) where
         (refused ((has_nul text, Nul) ∷ (not (is_html_block rules text), HtmlBlock) ∷ [])) (λ h.
         let none = none-holds ((has_nul text, Nul) ∷ (not (is_html_block rules text), HtmlBlock) ∷ []) h in
         (html-fits rules text none.0 (not-false (is_html_block rules text) none.1.0), refl))
-    layer block.Break inside = leaf-spelled (record { part = thematic_break; lines = codes "___" ∷ [] }) (leaf_block thematic_break) None (λ h. (break-fits rules, refl))
+    layer block.Break inside = leaf-spelled (record { part = thematic_break; lines = break_line ∷ [] }) (leaf_block thematic_break) None (λ h. (break-fits rules, refl))
     layer (block.Definition label dest title) inside = leaf-spelled (record { part = definition label dest title; lines = [] }) (DefinitionBlock label dest title) (Some Definition) (λ h. absurd (cc h))
     layer (block.Quote blocks) inside = quote-spelled (all-spelled blocks inside)
     layer (block.List kind tight items) inside = list-spelled kind tight (items-spelled items inside)

@@ -11,18 +11,18 @@ use Rattle.cm_scan.specs.Words.{is_empty}
 use Rattle.cm_scan.specs.inlines.Delimiters.{neighbour}
 use Rattle.cm_scan.specs.inlines.Atoms.{first_character, last_character}
 use Rattle.cm_source.specs.Texts.{spelled_bytes, padding, longest_run, spelled_text, spelled_code, spelled_title, spelled_target}
-use Rattle.cm_source.specs.Inlines.{Spelled, join, between, inside_line, spelled}
+use Rattle.cm_source.specs.Inlines.{Spelled, join, between, spelled}
 use Rattle.cm_source.specs.Inlines as spelling
-use Rattle.cm_source.specs.InlineRefusals.{Face, TextFace, CodeFace, BreakFace, EmphasisFace, OtherFace, is_text, is_code, is_break, is_emphasis, is_none, is_one_tag, Place, Judged, emphasis, judged}
+use Rattle.cm_source.specs.InlineRefusals.{Face, TextFace, CodeFace, BreakFace, EmphasisFace, OtherFace, is_text, is_code, is_emphasis, is_none, is_one_tag, Place, Judged, emphasis, judged}
 use Rattle.cm_source.specs.InlineRefusals as refusals
-use Rattle.cm_source.specs.steps.Utf8Inlines.{has_utf8}
-use Rattle.cm_source.proofs.lemmas.shared.InlineKinds.{text-judged, code-judged, html-judged, soft-judged, hard-judged, emph-judged, strong-judged, strike-judged, link-judged, image-judged, text-spelled, code-spelled, html-spelled, soft-spelled, hard-spelled, emph-spelled, strong-spelled, strike-spelled, link-spelled, image-spelled, text-strings}
+use Rattle.cm_source.specs.steps.Utf8Inlines.{has_utf8, utf8_step}
 use Rattle.cm_source.proofs.lemmas.shared.InlineInduction.{Cases, by-cases}
 use Rattle.cm_source.proofs.lemmas.shared.AcceptedLemmas.{Accepted, text-accepted, code-accepted, html-accepted, soft-accepted, hard-accepted, emph-accepted, strong-accepted, strike-accepted}
 use Rattle.cm_source.proofs.lemmas.fitting.Neighbours.{text-begins, text-ends}
 use Rattle.cm_source.proofs.lemmas.fitting.SpellingsAreUtf8.{inline-utf8, utf8-as}
 use Rattle.cm_source.proofs.lemmas.fitting.InlineEdges.{Shows, shows-punctuation, shows-feed, beside-shows, Ends, Facts, Bytes, by-bytes, text-hidden, tick-hidden, star-hidden, tilde-hidden}
 use Rattle.cm_source.proofs.lemmas.shared.OneTag.{tag-begins, tag-ends}
+use Rattle.cm_tree.proofs.lemmas.InlineFolds as inline_fold
 
 -- ---- the first and the last byte of each kind
 
@@ -82,7 +82,7 @@ module _ (rules : Rules) where
       let face = TextFace (first_character text) (last_character (reverse text)) in
       record {
         begins = λ first last rest. beside-shows rules (Some face) (first_character text) _ (text-begins rules first last text rest u some);
-        ends = λ first last behind v. beside-shows rules (Some face) (last_character (reverse text)) _ (text-ends rules first last text behind u some v);
+        ends = λ first last beyond v. beside-shows rules (Some face) (last_character (reverse text)) _ (text-ends rules first last text beyond u some v);
         no_line_end = λ k t. absurd (cc t);
         no_tick = λ k first last rest. text-hidden 96 first last text rest tick-hidden some;
         no_star = λ k first last rest. text-hidden 42 first last text rest star-hidden some;
@@ -142,7 +142,7 @@ module _ (rules : Rules) where
   break-bytes : (ends_line : Bool) (before after : Option Face) (x : ℕ) → x < 128 → Shows rules (Some BreakFace) None (neighbour rules (Some x)) → (x == 32) ≡ false
       → (ends_line ≡ false → (x == 10) ≡ false) → (x == 96) ≡ false → (x == 42) ≡ false → (x == 126) ≡ false → is_none before ≡ false → is_none after ≡ false
       → Bytes rules BreakFace ends_line before after x 10
-  break-bytes ends_line before after x h shows a b c d e behind ahead = record {
+  break-bytes ends_line before after x h shows a b c d e beyond ahead = record {
     first_low = h;
     last_low = omega arith;
     first_shows = shows;
@@ -152,7 +152,7 @@ module _ (rules : Rules) where
     no_tick = λ f. c;
     no_star = λ f. d;
     no_tilde = λ f. e;
-    apart = record { text = and_right (is_text before) false refl; code = and_right (is_code before) false refl; emphasis = and_right (is_emphasis before) false refl; first = λ f. absurd (cc (behind, f)); last = λ f. absurd (cc (ahead, f)) };
+    apart = record { text = and_right (is_text before) false refl; code = and_right (is_code before) false refl; emphasis = and_right (is_emphasis before) false refl; first = λ f. absurd (cc (beyond, f)); last = λ f. absurd (cc (ahead, f)) };
   }
 
 so-spelled : (i : Inline) (s : Spelled) → spelled i ≡ s → has_utf8 i ≡ true → (first last : Bool) → IsUtf8 (s.spelling first last)
@@ -178,53 +178,53 @@ module _ (rules : Rules) where
     text = λ text place before after e all.
         let a = text-accepted rules place before after text e in
         as-said (judged rules (Text text)) (refusals.inline_step rules (inline.Text text)) (spelled (Text text)) (spelling.inline_step (inline.Text text)) before after
-        (text-judged rules text) (text-spelled text) (text-facts rules text before after (IsUtf8-from_is_utf8 text (sym (text-strings text) ∙ all)) a.nonempty a.apart);
+        (inline_fold.text (refusals.inline_step rules) text) (inline_fold.text spelling.inline_step text) (text-facts rules text before after (IsUtf8-from_is_utf8 text (sym (inline_fold.text utf8_step text) ∙ all)) a.nonempty a.apart);
     code = λ text place before after e all.
         let a = code-accepted rules place before after text e in
         as-said (judged rules (Code text)) (refusals.inline_step rules (inline.Code text)) (spelled (Code text)) (spelling.inline_step (inline.Code text)) before after
-        (code-judged rules text) (code-spelled text) (code-facts rules text before after a.apart (so-spelled (Code text) (spelling.inline_step (inline.Code text)) (code-spelled text) all));
+        (inline_fold.code (refusals.inline_step rules) text) (inline_fold.code spelling.inline_step text) (code-facts rules text before after a.apart (so-spelled (Code text) (spelling.inline_step (inline.Code text)) (inline_fold.code spelling.inline_step text) all));
     html = λ text place before after e all.
         let a = html-accepted rules place before after text e in
         as-said (judged rules (Html text)) (refusals.inline_step rules (inline.Html text)) (spelled (Html text)) (spelling.inline_step (inline.Html text)) before after
-        (html-judged rules text) (html-spelled text)
+        (inline_fold.html (refusals.inline_step rules) text) (inline_fold.html spelling.inline_step text)
         (by-bytes rules OtherFace (λ first last. text) false before after 60 62 (other-bytes rules before after 60 62 (omega arith) (omega arith) refl refl refl refl refl refl refl)
-        (html-ends rules text a.one_tag) (so-spelled (Html text) (spelling.inline_step (inline.Html text)) (html-spelled text) all));
+        (html-ends rules text a.one_tag) (so-spelled (Html text) (spelling.inline_step (inline.Html text)) (inline_fold.html spelling.inline_step text) all));
     soft = λ place before after e all.
         let a = soft-accepted rules place before after e in
-        as-said (judged rules Soft) (refusals.inline_step rules inline.Soft) (spelled Soft) (spelling.inline_step inline.Soft) before after (soft-judged rules) soft-spelled
+        as-said (judged rules Soft) (refusals.inline_step rules inline.Soft) (spelled Soft) (spelling.inline_step inline.Soft) before after (inline_fold.soft (refusals.inline_step rules)) (inline_fold.soft spelling.inline_step)
         (by-bytes rules BreakFace (λ first last. codes "\n") true before after 10 10
-        (break-bytes rules true before after 10 (omega arith) (shows-feed rules (Some BreakFace) refl) refl (λ f. absurd (cc f)) refl refl refl a.behind a.in_front)
-        soft-ends (so-spelled Soft (spelling.inline_step inline.Soft) soft-spelled all));
+        (break-bytes rules true before after 10 (omega arith) (shows-feed rules (Some BreakFace) refl) refl (λ f. absurd (cc f)) refl refl refl a.beyond a.in_front)
+        soft-ends (so-spelled Soft (spelling.inline_step inline.Soft) (inline_fold.soft spelling.inline_step) all));
     hard = λ place before after e all.
         let a = hard-accepted rules place before after e in
-        as-said (judged rules Hard) (refusals.inline_step rules inline.Hard) (spelled Hard) (spelling.inline_step inline.Hard) before after (hard-judged rules) hard-spelled
+        as-said (judged rules Hard) (refusals.inline_step rules inline.Hard) (spelled Hard) (spelling.inline_step inline.Hard) before after (inline_fold.hard (refusals.inline_step rules)) (inline_fold.hard spelling.inline_step)
         (by-bytes rules BreakFace (λ first last. codes "\\\n") false before after 92 10
-        (break-bytes rules false before after 92 (omega arith) (shows-punctuation rules (Some BreakFace) 92 (omega arith) refl) refl (λ f. refl) refl refl refl a.behind a.in_front)
-        hard-ends (so-spelled Hard (spelling.inline_step inline.Hard) hard-spelled all));
+        (break-bytes rules false before after 92 (omega arith) (shows-punctuation rules (Some BreakFace) 92 (omega arith) refl) refl (λ f. refl) refl refl refl a.beyond a.in_front)
+        hard-ends (so-spelled Hard (spelling.inline_step inline.Hard) (inline_fold.hard spelling.inline_step) all));
     emph = λ content hold place before after e all.
         let a = emph-accepted rules place before after content e in
-        known-emphasis false (Emph content) content (codes "*") 42 [] [] before after (emph-judged rules content) (emph-spelled content) all refl refl
+        known-emphasis false (Emph content) content (codes "*") 42 [] [] before after (inline_fold.emph (refusals.inline_step rules) content) (inline_fold.emph spelling.inline_step content) all refl refl
         (emphasis-bytes rules before after 42 (omega arith) refl refl refl refl a.apart);
     strong = λ content hold place before after e all.
         let a = strong-accepted rules place before after content e in
-        known-emphasis false (Strong content) content (codes "**") 42 (42 ∷ []) (42 ∷ []) before after (strong-judged rules content) (strong-spelled content) all refl refl
+        known-emphasis false (Strong content) content (codes "**") 42 (42 ∷ []) (42 ∷ []) before after (inline_fold.strong (refusals.inline_step rules) content) (inline_fold.strong spelling.inline_step content) all refl refl
         (emphasis-bytes rules before after 42 (omega arith) refl refl refl refl a.apart);
     strike = λ content hold place before after e all.
         let a = strike-accepted rules place before after content e in
-        known-emphasis true (Strike content) content (codes "~~") 126 (126 ∷ []) (126 ∷ []) before after (strike-judged rules content) (strike-spelled content) all refl refl
+        known-emphasis true (Strike content) content (codes "~~") 126 (126 ∷ []) (126 ∷ []) before after (inline_fold.strike (refusals.inline_step rules) content) (inline_fold.strike spelling.inline_step content) all refl refl
         (emphasis-bytes rules before after 126 (omega arith) refl refl refl refl a.apart);
     link = λ dest title content hold place before after e all.
         let s = between (codes "[") (map spelled content) (spelled_target dest title) in
         as-said (judged rules (Link dest title content)) (refusals.inline_step rules (inline.Link dest title (map (judged rules) content))) (spelled (Link dest title content)) s before after
-        (link-judged rules dest title content) (link-spelled dest title content)
+        (inline_fold.link (refusals.inline_step rules) dest title content) (inline_fold.link spelling.inline_step dest title content)
         (by-bytes rules OtherFace s.spelling false before after 91 41 (other-bytes rules before after 91 41 (omega arith) (omega arith) refl refl refl refl refl refl refl)
-        (link-ends dest title (map spelled content)) (so-spelled (Link dest title content) s (link-spelled dest title content) all));
+        (link-ends dest title (map spelled content)) (so-spelled (Link dest title content) s (inline_fold.link spelling.inline_step dest title content) all));
     image = λ dest title content hold place before after e all.
         let s = between (codes "![") (map spelled content) (spelled_target dest title) in
         as-said (judged rules (Image dest title content)) (refusals.inline_step rules (inline.Image dest title (map (judged rules) content))) (spelled (Image dest title content)) s before after
-        (image-judged rules dest title content) (image-spelled dest title content)
+        (inline_fold.image (refusals.inline_step rules) dest title content) (inline_fold.image spelling.inline_step dest title content)
         (by-bytes rules OtherFace s.spelling false before after 33 41 (other-bytes rules before after 33 41 (omega arith) (omega arith) refl refl refl refl refl refl refl)
-        (image-ends dest title (map spelled content)) (so-spelled (Image dest title content) s (image-spelled dest title content) all));
+        (image-ends dest title (map spelled content)) (so-spelled (Image dest title content) s (inline_fold.image spelling.inline_step dest title content) all));
   }
 
   pub known : (i : Inline) → IsKnown i

@@ -16,9 +16,8 @@ use Rattle.cm_source.specs.Texts.{spelled_target}
 use Rattle.cm_source.specs.Inlines.{join, is_line_end, spelled, spelled_inlines}
 use Rattle.cm_source.specs.InlineRefusals.{Face, is_text, is_code, is_break, is_emphasis, is_none, first_of, last_of, is_whitespace, is_plain, first_face, last_face, hold_emphasis, Place, Judged, further_in, inside_link, refusal_of_all, judged, of_paragraph, of_heading}
 use Rattle.cm_source.specs.steps.ContentBack.{Mark, Star, TwoStars, TwoTildes, character_of, count_of, written, is_known, IsBetween, is_before_line_end, Fits, FitsText, FitsCode, FitsHtml, FitsSoft, FitsHard, FitsEmphasis, FitsLink, FitsImage, FitsAll, FitsNone, FitsNext}
-use Rattle.cm_source.specs.steps.Utf8Inlines.{all_of, has_utf8}
+use Rattle.cm_source.specs.steps.Utf8Inlines.{all_of, has_utf8, utf8_step}
 use Rattle.cm_source.specs.steps.Fitting.{ParagraphsFit, HeadingsFit}
-use Rattle.cm_source.proofs.lemmas.shared.InlineKinds.{text-judged, code-judged, html-judged, soft-judged, hard-judged, emph-judged, strong-judged, strike-judged, link-judged, image-judged, emph-strings, strong-strings, strike-strings, link-strings, image-strings}
 use Rattle.cm_source.proofs.lemmas.shared.InlineInduction.{AllHold, Cases, by-cases, all-by-cases}
 use Rattle.cm_source.proofs.lemmas.shared.AcceptedLemmas.{or-none, Accepted, EmphasisAccepted, text-accepted, code-accepted, html-accepted, emph-accepted, strong-accepted, strike-accepted, link-accepted, image-accepted}
 use Rattle.cm_source.proofs.lemmas.fitting.Neighbours.{is_blank, ascii-utf8, first-ascii, last-ascii}
@@ -26,6 +25,8 @@ use Rattle.cm_source.proofs.lemmas.fitting.SpellingsAreUtf8.{inline-utf8}
 use Rattle.cm_source.proofs.lemmas.fitting.InlineEdges.{second-fails, Shows, shows-punctuation, further-utf8}
 use Rattle.cm_source.proofs.lemmas.fitting.EdgesOfKinds.{known}
 use Rattle.cm_source.proofs.lemmas.inlines.BytesRead.{no-line-here}
+use Rattle.cm_tree.proofs.lemmas.InlineFolds as inline_fold
+use Rattle.cm_source.specs.InlineRefusals as refusals
 
 -- emphasis has emphasis
 abbrev IsHeld : Judged → Type 0
@@ -33,16 +34,16 @@ IsHeld j = (is_emphasis (Some j.face) && not j.has_emphasis) ≡ false
 
 held-cases : (rules : Rules) → Cases (λ i. IsHeld (judged rules i))
 held-cases rules = record {
-  text = λ text. subst IsHeld (sym (text-judged rules text)) refl;
-  code = λ text. subst IsHeld (sym (code-judged rules text)) refl;
-  html = λ text. subst IsHeld (sym (html-judged rules text)) refl;
-  soft = subst IsHeld (sym (soft-judged rules)) refl;
-  hard = subst IsHeld (sym (hard-judged rules)) refl;
-  emph = λ content hold. subst IsHeld (sym (emph-judged rules content)) refl;
-  strong = λ content hold. subst IsHeld (sym (strong-judged rules content)) refl;
-  strike = λ content hold. subst IsHeld (sym (strike-judged rules content)) refl;
-  link = λ dest title content hold. subst IsHeld (sym (link-judged rules dest title content)) refl;
-  image = λ dest title content hold. subst IsHeld (sym (image-judged rules dest title content)) refl;
+  text = λ text. subst IsHeld (sym (inline_fold.text (refusals.inline_step rules) text)) refl;
+  code = λ text. subst IsHeld (sym (inline_fold.code (refusals.inline_step rules) text)) refl;
+  html = λ text. subst IsHeld (sym (inline_fold.html (refusals.inline_step rules) text)) refl;
+  soft = subst IsHeld (sym (inline_fold.soft (refusals.inline_step rules))) refl;
+  hard = subst IsHeld (sym (inline_fold.hard (refusals.inline_step rules))) refl;
+  emph = λ content hold. subst IsHeld (sym (inline_fold.emph (refusals.inline_step rules) content)) refl;
+  strong = λ content hold. subst IsHeld (sym (inline_fold.strong (refusals.inline_step rules) content)) refl;
+  strike = λ content hold. subst IsHeld (sym (inline_fold.strike (refusals.inline_step rules) content)) refl;
+  link = λ dest title content hold. subst IsHeld (sym (inline_fold.link (refusals.inline_step rules) dest title content)) refl;
+  image = λ dest title content hold. subst IsHeld (sym (inline_fold.image (refusals.inline_step rules) dest title content)) refl;
 }
 
 not-emphasis : (rules : Rules) (i : Inline) → (judged rules i).has_emphasis ≡ false → is_emphasis (Some (judged rules i).face) ≡ false
@@ -67,17 +68,17 @@ module _ (rules : Rules) where
   -- what a content needs of what is around it
   record Outside (emphasis last : Bool) (face : Option Face) (before rest : List ℕ) : Type 0 where
     utf8 : IsUtf8 (reverse before)
-    behind : Shows rules face (last_of face) (neighbour rules (last_character before))
+    beyond : Shows rules face (last_of face) (neighbour rules (last_character before))
     ahead : Shows rules None None (neighbour rules (first_character rest))
     no_line_end : last ≡ false → is_before_line_end rest ≡ false
     no_tick : begins_with 96 rest ≡ false
     no_star : emphasis ≡ true → begins_with 42 rest ≡ false
     no_tilde : emphasis ≡ true → begins_with 126 rest ≡ false
 
-  ahead-of : (place : Place) (face : Face) (behind : Option Face) (emphasis begins last : Bool) (content : List Inline) (before rest : List ℕ)
-      → refusal_of_all place (Some face) (map (judged rules) content) ≡ None → all_of (map has_utf8 content) ≡ true → Outside emphasis last behind before rest
+  ahead-of : (place : Place) (face : Face) (beyond : Option Face) (emphasis begins last : Bool) (content : List Inline) (before rest : List ℕ)
+      → refusal_of_all place (Some face) (map (judged rules) content) ≡ None → all_of (map has_utf8 content) ≡ true → Outside emphasis last beyond before rest
       → Ahead face emphasis begins last content rest
-  ahead-of place face behind emphasis begins last [] before rest e all o = record {
+  ahead-of place face beyond emphasis begins last [] before rest e all o = record {
     texts = and_right (is_text (Some face)) false refl;
     shows = o.ahead;
     no_line_end = λ t k. o.no_line_end k;
@@ -85,7 +86,7 @@ module _ (rules : Rules) where
     no_star = λ m t. o.no_star m;
     no_tilde = λ m t. o.no_tilde m;
   }
-  ahead-of place face behind emphasis begins last (k ∷ ks) before rest e all o =
+  ahead-of place face beyond emphasis begins last (k ∷ ks) before rest e all o =
       let j = judged rules k in
       let s = (spelled k).spelling begins (is_line_end last (map spelled ks)) in
       let more = join (spelled k).begins_line last (map spelled ks) in
@@ -105,9 +106,9 @@ module _ (rules : Rules) where
   -- ---- one inline after another
 
   -- what an inline needs of what is around it
-  record Between (face : Face) (emphasis last : Bool) (ahead_face behind_face : Option Face) (before rest : List ℕ) : Type 0 where
+  record Between (face : Face) (emphasis last : Bool) (ahead_face after_face : Option Face) (before rest : List ℕ) : Type 0 where
     utf8 : IsUtf8 (reverse before)
-    behind : Shows rules behind_face (last_of behind_face) (neighbour rules (last_character before))
+    beyond : Shows rules after_face (last_of after_face) (neighbour rules (last_character before))
     ahead : Shows rules ahead_face (first_of ahead_face) (neighbour rules (first_character rest))
     no_line_end : is_text (Some face) ≡ true → last ≡ false → is_before_line_end rest ≡ false
     no_tick : is_code (Some face) ≡ true → begins_with 96 rest ≡ false
@@ -115,8 +116,8 @@ module _ (rules : Rules) where
     no_tilde : emphasis ≡ true → is_emphasis (Some face) ≡ true → begins_with 126 rest ≡ false
 
   abbrev FitsThere : Inline → Type 0
-  FitsThere i = (place : Place) (behind ahead : Option Face) (emphasis first last : Bool) (before rest : List ℕ) → Accepted rules place behind ahead i → has_utf8 i ≡ true
-      → (emphasis ≡ false → (judged rules i).has_emphasis ≡ false) → Between (judged rules i).face emphasis last ahead behind before rest
+  FitsThere i = (place : Place) (beyond ahead : Option Face) (emphasis first last : Bool) (before rest : List ℕ) → Accepted rules place beyond ahead i → has_utf8 i ≡ true
+      → (emphasis ≡ false → (judged rules i).has_emphasis ≡ false) → Between (judged rules i).face emphasis last ahead beyond before rest
       → Fits rules emphasis first last before i rest
 
   content-fits : (content : List Inline) → AllHold FitsThere content → (place : Place) (face : Option Face) (emphasis first last : Bool) (before rest : List ℕ)
@@ -139,7 +140,7 @@ module _ (rules : Rules) where
       (λ m. (or_parts j.has_emphasis (hold_emphasis others) (flat m)).0)
       (record {
         utf8 = o.utf8;
-        behind = o.behind;
+        beyond = o.beyond;
         ahead = ahead.shows;
         no_line_end = ahead.no_line_end;
         no_tick = ahead.no_tick;
@@ -150,7 +151,7 @@ module _ (rules : Rules) where
       (λ m. (or_parts j.has_emphasis (hold_emphasis others) (flat m)).1)
       (record {
         utf8 = further-utf8 s before (inline-utf8 i both.0 first ends) o.utf8;
-        behind = facts.ends first ends before o.utf8;
+        beyond = facts.ends first ends before o.utf8;
         ahead = o.ahead;
         no_line_end = o.no_line_end;
         no_tick = o.no_tick;
@@ -255,7 +256,7 @@ module _ (rules : Rules) where
       → (emphasis ≡ true → (y == 42) ≡ false) → (emphasis ≡ true → (y == 126) ≡ false) → IsUtf8 (reverse before) → Outside emphasis false None (x ∷ before) (y ∷ rest)
   at-marks emphasis x y before rest h k p q a b c d e u = record {
     utf8 = further-utf8 (x ∷ []) before (ascii-utf8 (x ∷ []) (ap (λ t. t && true) (lt-ltb x 128 h))) u;
-    behind = subst (λ o. Shows rules None None (neighbour rules o)) (sym (last-ascii x before h u)) (shows-punctuation rules None x h p);
+    beyond = subst (λ o. Shows rules None None (neighbour rules o)) (sym (last-ascii x before h u)) (shows-punctuation rules None x h p);
     ahead = subst (λ o. Shows rules None None (neighbour rules o)) (sym (first-ascii y rest k)) (shows-punctuation rules None y k q);
     no_line_end = λ f. no-line-here y rest a b;
     no_tick = c;
@@ -284,33 +285,33 @@ module _ (rules : Rules) where
   mark-utf8 mark before u = (in-marks mark before [] u).utf8
 
   -- a content with an accepted edge has a mark on both sides
-  has-marks : (mark : Mark) (strike : Bool) (place : Place) (behind ahead : Option Face) (content : List Inline) (before rest : List ℕ)
-      → EmphasisAccepted rules strike (map (judged rules) content) place behind ahead → is_known rules mark ≡ true → all_of (map has_utf8 content) ≡ true → IsUtf8 (reverse before)
-      → Shows rules behind (last_of behind) (neighbour rules (last_character before)) → Shows rules ahead (first_of ahead) (neighbour rules (first_character rest))
+  has-marks : (mark : Mark) (strike : Bool) (place : Place) (beyond ahead : Option Face) (content : List Inline) (before rest : List ℕ)
+      → EmphasisAccepted rules strike (map (judged rules) content) place beyond ahead → is_known rules mark ≡ true → all_of (map has_utf8 content) ≡ true → IsUtf8 (reverse before)
+      → Shows rules beyond (last_of beyond) (neighbour rules (last_character before)) → Shows rules ahead (first_of ahead) (neighbour rules (first_character rest))
       → begins_with 42 rest ≡ false → begins_with 126 rest ≡ false → IsBetween rules mark before (spelled_inlines false false content) rest
   unfolding run_between
-  has-marks mark strike place behind ahead content before rest a is all u shown shows no_star no_tilde =
+  has-marks mark strike place beyond ahead content before rest a is all u shown shows no_star no_tilde =
       let inner = map (judged rules) content in
       let spelling = spelled_inlines false false content in
       let first = first_of (first_face inner) in
       let last = last_of (last_face inner) in
-      let five = or_parts (is_none (first_face inner) || is_whitespace first || is_plain rules (last_of behind) && not (is_plain rules first) || is_whitespace last) (is_plain rules (first_of ahead) && not (is_plain rules last)) a.edge in
-      let four = or_parts (is_none (first_face inner) || is_whitespace first || is_plain rules (last_of behind) && not (is_plain rules first)) (is_whitespace last) five.0 in
-      let three = or_parts (is_none (first_face inner) || is_whitespace first) (is_plain rules (last_of behind) && not (is_plain rules first)) four.0 in
+      let five = or_parts (is_none (first_face inner) || is_whitespace first || is_plain rules (last_of beyond) && not (is_plain rules first) || is_whitespace last) (is_plain rules (first_of ahead) && not (is_plain rules last)) a.edge in
+      let four = or_parts (is_none (first_face inner) || is_whitespace first || is_plain rules (last_of beyond) && not (is_plain rules first)) (is_whitespace last) five.0 in
+      let three = or_parts (is_none (first_face inner) || is_whitespace first) (is_plain rules (last_of beyond) && not (is_plain rules first)) four.0 in
       let two = or_parts (is_none (first_face inner)) (is_whitespace first) three.0 in
       let front = begun (further_in place) content (written mark ++ rest) two.0 a.inside all a.flat in
       let back = ended (further_in place) None false content (written mark ++ before) two.0 a.inside all (mark-utf8 mark before u) in
       let ahead_is : (spelling ++ written mark) ++ rest ≡ spelling ++ (written mark ++ rest) = append_assoc spelling (written mark) rest in
-      let behind_is : (reverse spelling ++ written mark) ++ before ≡ reverse spelling ++ (written mark ++ before) = append_assoc (reverse spelling) (written mark) before in
+      let beyond_is : (reverse spelling ++ written mark) ++ before ≡ reverse spelling ++ (written mark ++ before) = append_assoc (reverse spelling) (written mark) before in
       let inside_first = subst (λ l. Shows rules (first_face inner) first (neighbour rules (first_character l))) (sym ahead_is) front.shows in
-      let inside_last = subst (λ l. Shows rules (last_face inner) last (neighbour rules (last_character l))) (sym behind_is) back.shows in
+      let inside_last = subst (λ l. Shows rules (last_face inner) last (neighbour rules (last_character l))) (sym beyond_is) back.shows in
       record {
         known = is;
         first_ends = ap (begins_with (character_of mark)) ahead_is ∙ mark-ends mark (spelling ++ (written mark ++ rest)) front.no_star front.no_tilde;
         second_ends = mark-ends mark rest no_star no_tilde;
         opens = flanks (character_of mark) (neighbour rules (last_character before)) (neighbour rules (first_character ((spelling ++ written mark) ++ rest))) (no-underscore mark)
             (not-blank (first_face inner) first _ inside_first two.1 front.no_break two.0)
-            (ap (λ v. v && not (is_other (neighbour rules (first_character ((spelling ++ written mark) ++ rest))))) shown.plain ∙ ap (λ v. is_plain rules (last_of behind) && not v) inside_first.plain ∙ three.1);
+            (ap (λ v. v && not (is_other (neighbour rules (first_character ((spelling ++ written mark) ++ rest))))) shown.plain ∙ ap (λ v. is_plain rules (last_of beyond) && not v) inside_first.plain ∙ three.1);
         closes = flanks (character_of mark) (neighbour rules (first_character rest)) (neighbour rules (last_character ((reverse spelling ++ written mark) ++ before))) (no-underscore mark)
             (not-blank (last_face inner) last _ inside_last four.1 back.no_break (last-some inner two.0))
             (ap (λ v. v && not (is_other (neighbour rules (last_character ((reverse spelling ++ written mark) ++ before))))) shows.plain ∙ ap (λ v. is_plain rules (first_of ahead) && not v) inside_last.plain ∙ five.1);
@@ -319,13 +320,13 @@ module _ (rules : Rules) where
   -- ---- each kind
 
   mark-fits : (mark : Mark) (strike : Bool) (content : List Inline) → AllHold FitsThere content → (j : Judged) → j.has_emphasis ≡ true → is_emphasis (Some j.face) ≡ true
-      → (place : Place) (behind ahead : Option Face) (emphasis first last : Bool) (before rest : List ℕ) → EmphasisAccepted rules strike (map (judged rules) content) place behind ahead
-      → is_known rules mark ≡ true → all_of (map has_utf8 content) ≡ true → (emphasis ≡ false → j.has_emphasis ≡ false) → Between j.face emphasis last ahead behind before rest
+      → (place : Place) (beyond ahead : Option Face) (emphasis first last : Bool) (before rest : List ℕ) → EmphasisAccepted rules strike (map (judged rules) content) place beyond ahead
+      → is_known rules mark ≡ true → all_of (map has_utf8 content) ≡ true → (emphasis ≡ false → j.has_emphasis ≡ false) → Between j.face emphasis last ahead beyond before rest
       → Fits rules emphasis first last before (emphasised (character_of mark) (count_of mark) content) rest
-  mark-fits mark strike content hold j held face place behind ahead false first last before rest a is all may b = absurd (cc (may refl, held))
-  mark-fits mark strike content hold j held face place behind ahead true first last before rest a is all may b =
+  mark-fits mark strike content hold j held face place beyond ahead false first last before rest a is all may b = absurd (cc (may refl, held))
+  mark-fits mark strike content hold j held face place beyond ahead true first last before rest a is all may b =
       FitsEmphasis mark
-      (has-marks mark strike place behind ahead content before rest a is all b.utf8 b.behind b.ahead (b.no_star refl face) (b.no_tilde refl face))
+      (has-marks mark strike place beyond ahead content before rest a is all b.utf8 b.beyond b.ahead (b.no_star refl face) (b.no_tilde refl face))
       (content-fits content hold (further_in place) None false false false (written mark ++ before) (written mark ++ rest) a.inside all (λ e. a.flat) (in-marks mark before rest b.utf8))
 
   in-target : (before rest dest title : List ℕ) → IsUtf8 (reverse before) → Outside true false None (91 ∷ before) (spelled_target dest title ++ rest)
@@ -334,33 +335,33 @@ module _ (rules : Rules) where
 
   fits-cases : Cases FitsThere
   fits-cases = record {
-    text = λ text place behind ahead emphasis first last before rest e all may b.
-        let a = text-accepted rules place behind ahead text e in
-        FitsText a.nonempty a.no_nul (b.no_line_end (ap (λ (j : Judged). is_text (Some j.face)) (text-judged rules text)));
-    code = λ text place behind ahead emphasis first last before rest e all may b.
-        let a = code-accepted rules place behind ahead text e in
-        FitsCode a.nonempty a.one_line (b.no_tick (ap (λ (j : Judged). is_code (Some j.face)) (code-judged rules text)));
-    html = λ text place behind ahead emphasis first last before rest e all may b. FitsHtml (html-accepted rules place behind ahead text e).one_tag;
-    soft = λ place behind ahead emphasis first last before rest e all may b. FitsSoft;
-    hard = λ place behind ahead emphasis first last before rest e all may b. FitsHard;
-    emph = λ content hold place behind ahead emphasis first last before rest e all may b.
-        mark-fits Star false content hold (judged rules (Emph content)) (ap (λ (j : Judged). j.has_emphasis) (emph-judged rules content)) (ap (λ (j : Judged). is_emphasis (Some j.face)) (emph-judged rules content))
-        place behind ahead emphasis first last before rest (emph-accepted rules place behind ahead content e) refl (sym (emph-strings content) ∙ all) may b;
-    strong = λ content hold place behind ahead emphasis first last before rest e all may b.
-        mark-fits TwoStars false content hold (judged rules (Strong content)) (ap (λ (j : Judged). j.has_emphasis) (strong-judged rules content)) (ap (λ (j : Judged). is_emphasis (Some j.face)) (strong-judged rules content))
-        place behind ahead emphasis first last before rest (strong-accepted rules place behind ahead content e) refl (sym (strong-strings content) ∙ all) may b;
-    strike = λ content hold place behind ahead emphasis first last before rest e all may b.
-        let a = strike-accepted rules place behind ahead content e in
-        mark-fits TwoTildes true content hold (judged rules (Strike content)) (ap (λ (j : Judged). j.has_emphasis) (strike-judged rules content)) (ap (λ (j : Judged). is_emphasis (Some j.face)) (strike-judged rules content))
-        place behind ahead emphasis first last before rest a (not-false rules.strike a.enabled) (sym (strike-strings content) ∙ all) may b;
-    link = λ dest title content hold place behind ahead emphasis first last before rest e all may b.
-        let a = link-accepted rules place behind ahead dest title content e in
-        let strings = (and_parts (is_utf8 dest && is_utf8 title) (all_of (map has_utf8 content)) (sym (link-strings dest title content) ∙ all)).1 in
+    text = λ text place beyond ahead emphasis first last before rest e all may b.
+        let a = text-accepted rules place beyond ahead text e in
+        FitsText a.nonempty a.no_nul (b.no_line_end (ap (λ (j : Judged). is_text (Some j.face)) (inline_fold.text (refusals.inline_step rules) text)));
+    code = λ text place beyond ahead emphasis first last before rest e all may b.
+        let a = code-accepted rules place beyond ahead text e in
+        FitsCode a.nonempty a.one_line (b.no_tick (ap (λ (j : Judged). is_code (Some j.face)) (inline_fold.code (refusals.inline_step rules) text)));
+    html = λ text place beyond ahead emphasis first last before rest e all may b. FitsHtml (html-accepted rules place beyond ahead text e).one_tag;
+    soft = λ place beyond ahead emphasis first last before rest e all may b. FitsSoft;
+    hard = λ place beyond ahead emphasis first last before rest e all may b. FitsHard;
+    emph = λ content hold place beyond ahead emphasis first last before rest e all may b.
+        mark-fits Star false content hold (judged rules (Emph content)) (ap (λ (j : Judged). j.has_emphasis) (inline_fold.emph (refusals.inline_step rules) content)) (ap (λ (j : Judged). is_emphasis (Some j.face)) (inline_fold.emph (refusals.inline_step rules) content))
+        place beyond ahead emphasis first last before rest (emph-accepted rules place beyond ahead content e) refl (sym (inline_fold.emph utf8_step content) ∙ all) may b;
+    strong = λ content hold place beyond ahead emphasis first last before rest e all may b.
+        mark-fits TwoStars false content hold (judged rules (Strong content)) (ap (λ (j : Judged). j.has_emphasis) (inline_fold.strong (refusals.inline_step rules) content)) (ap (λ (j : Judged). is_emphasis (Some j.face)) (inline_fold.strong (refusals.inline_step rules) content))
+        place beyond ahead emphasis first last before rest (strong-accepted rules place beyond ahead content e) refl (sym (inline_fold.strong utf8_step content) ∙ all) may b;
+    strike = λ content hold place beyond ahead emphasis first last before rest e all may b.
+        let a = strike-accepted rules place beyond ahead content e in
+        mark-fits TwoTildes true content hold (judged rules (Strike content)) (ap (λ (j : Judged). j.has_emphasis) (inline_fold.strike (refusals.inline_step rules) content)) (ap (λ (j : Judged). is_emphasis (Some j.face)) (inline_fold.strike (refusals.inline_step rules) content))
+        place beyond ahead emphasis first last before rest a (not-false rules.strike a.enabled) (sym (inline_fold.strike utf8_step content) ∙ all) may b;
+    link = λ dest title content hold place beyond ahead emphasis first last before rest e all may b.
+        let a = link-accepted rules place beyond ahead dest title content e in
+        let strings = (and_parts (is_utf8 dest && is_utf8 title) (all_of (map has_utf8 content)) (sym (inline_fold.link utf8_step dest title content) ∙ all)).1 in
         FitsLink a.no_nul_dest a.no_nul_title a.no_link a.followed
         (content-fits content hold (inside_link place) None true false false (91 ∷ before) (spelled_target dest title ++ rest) a.inside strings (λ m. absurd (cc m)) (in-target before rest dest title b.utf8));
-    image = λ dest title content hold place behind ahead emphasis first last before rest e all may b.
-        let a = image-accepted rules place behind ahead dest title content e in
-        let strings = (and_parts (is_utf8 dest && is_utf8 title) (all_of (map has_utf8 content)) (sym (image-strings dest title content) ∙ all)).1 in
+    image = λ dest title content hold place beyond ahead emphasis first last before rest e all may b.
+        let a = image-accepted rules place beyond ahead dest title content e in
+        let strings = (and_parts (is_utf8 dest && is_utf8 title) (all_of (map has_utf8 content)) (sym (inline_fold.image utf8_step dest title content) ∙ all)).1 in
         FitsImage a.no_nul_dest a.no_nul_title a.followed
         (content-fits content hold (further_in place) None true false false (91 ∷ 33 ∷ before) (spelled_target dest title ++ rest) a.inside strings (λ m. absurd (cc m))
         (in-target (33 ∷ before) rest dest title (further-utf8 (33 ∷ []) before (ascii-utf8 (33 ∷ []) refl) b.utf8)));
@@ -375,7 +376,7 @@ module _ (rules : Rules) where
   whole : Outside true true None [] []
   whole = record {
     utf8 = IsUtf8-nil;
-    behind = subst (λ o. Shows rules None None (neighbour rules o)) (sym (ap (λ l. slice_get (reverse l) 0) chars-nil)) nothing-shows;
+    beyond = subst (λ o. Shows rules None None (neighbour rules o)) (sym (ap (λ l. slice_get (reverse l) 0) chars-nil)) nothing-shows;
     ahead = subst (λ o. Shows rules None None (neighbour rules o)) (sym (ap (λ l. slice_get l 0) chars-nil)) nothing-shows;
     no_line_end = λ e. absurd (cc e);
     no_tick = refl;

@@ -127,8 +127,8 @@ module _ (rules : Rules) where
   -- What is known of an accepted inline between two faces, whatever is before it and after it.
   pub record Facts (face : Face) (spelling : (first last : Bool) → List ℕ) (ends_line : Bool) (before after : Option Face) : Type 0 where
     pub begins : (first last : Bool) (rest : List ℕ) → Shows rules (Some face) (first_of (Some face)) (neighbour rules (first_character (spelling first last ++ rest)))
-    pub ends : (first last : Bool) (behind : List ℕ) → IsUtf8 (reverse behind)
-        → Shows rules (Some face) (last_of (Some face)) (neighbour rules (last_character (reverse (spelling first last) ++ behind)))
+    pub ends : (first last : Bool) (beyond : List ℕ) → IsUtf8 (reverse beyond)
+        → Shows rules (Some face) (last_of (Some face)) (neighbour rules (last_character (reverse (spelling first last) ++ beyond)))
     pub no_line_end : ends_line ≡ false → is_text (Some face) ≡ false → (first last : Bool) (rest : List ℕ) → is_before_line_end (spelling first last ++ rest) ≡ false
     pub no_tick : is_code (Some face) ≡ false → (first last : Bool) (rest : List ℕ) → begins_with 96 (spelling first last ++ rest) ≡ false
     pub no_star : is_emphasis (Some face) ≡ false → (first last : Bool) (rest : List ℕ) → begins_with 42 (spelling first last ++ rest) ≡ false
@@ -153,7 +153,7 @@ module _ (rules : Rules) where
       → Facts face spelling ends_line before after
   by-bytes face spelling ends_line before after x y b e w = record {
     begins = λ first last rest. subst (λ c. Shows rules (Some face) (first_of (Some face)) (neighbour rules c)) (sym (ends-first spelling x y e b.first_low first last rest)) b.first_shows;
-    ends = λ first last behind u. subst (λ c. Shows rules (Some face) (last_of (Some face)) (neighbour rules c)) (sym (ends-last spelling x y e b.last_low first last behind (w first last) u)) b.last_shows;
+    ends = λ first last beyond u. subst (λ c. Shows rules (Some face) (last_of (Some face)) (neighbour rules c)) (sym (ends-last spelling x y e b.last_low first last beyond (w first last) u)) b.last_shows;
     no_line_end = λ k t first last rest. ends-line spelling x y e b.no_space (b.no_feed k) first last rest;
     no_tick = λ k first last rest. ends-begin spelling x y 96 e (b.no_tick k) first last rest;
     no_star = λ k first last rest. ends-begin spelling x y 42 e (b.no_star k) first last rest;

@@ -256,8 +256,8 @@ last-of-both xs ys v e = ap (λ l. slice_get l 0) (reverse-append xs ys) ∙ go 
     go (z ∷ zs) e = e
 
 -- the last character of a text that is UTF-8 after another one
-last-behind : (text before : List ℕ) (v : ℕ) → IsUtf8 (reverse before) → slice_get (reverse (chars text)) 0 ≡ Some v → last_character (reverse text ++ before) ≡ Some v
-last-behind text before v u e =
+last-beyond : (text before : List ℕ) (v : ℕ) → IsUtf8 (reverse before) → slice_get (reverse (chars text)) 0 ≡ Some v → last_character (reverse text ++ before) ≡ Some v
+last-beyond text before v u e =
     let whole : chars (reverse (reverse text ++ before)) ≡ chars (reverse before) ++ chars text =
     ap chars (reverse-append (reverse text) before ∙ ap (λ l. reverse before ++ l) (reverse-reverse text)) ∙ chars-append (reverse before) text u in
     ap (λ l. slice_get (reverse l) 0) whole ∙ last-of-both (chars (reverse before)) (chars text) v e
@@ -265,7 +265,7 @@ last-behind text before v u e =
 pub last-ascii : (x : ℕ) (before : List ℕ) → x < 128 → IsUtf8 (reverse before) → last_character (x ∷ before) ≡ Some x
 last-ascii x before h u =
     let both = ascii-encodes (x ∷ []) (ap (λ t. t && true) (lt-ltb x 128 h)) in
-    last-behind (x ∷ []) before x u (ap (λ l. slice_get (reverse l) 0) (ap chars (sym both.0) ∙ chars-encodes (x ∷ []) both.1))
+    last-beyond (x ∷ []) before x u (ap (λ l. slice_get (reverse l) 0) (ap chars (sym both.0) ∙ chars-encodes (x ∷ []) both.1))
 
 module _ (rules : Rules) where
   first-beside : (first last : Bool) (c : ℕ) (cs : List ℕ) → (x : ℕ) × (ys : List ℕ) × (spelled_characters first last (c ∷ cs) ≡ x ∷ ys) × Beside rules (Some c) (neighbour rules (Some x))
@@ -317,6 +317,6 @@ module _ (rules : Rules) where
           let own : last_character (reverse text) ≡ Some beside.1 =
           ap (λ l. slice_get (reverse (chars l)) 0) (reverse-reverse text ∙ sym e) ∙ ap (λ l. slice_get (reverse l) 0) (chars-encodes (c ∷ cs) s) ∙ beside.3 in
           let seen : last_character (reverse (spelled_text first last text) ++ before) ≡ Some beside.0 =
-          last-behind (spelled_text first last text) before beside.0 v (ap (λ l. slice_get (reverse l) 0) (characters-of first last text (c ∷ cs) s e) ∙ beside.2) in
+          last-beyond (spelled_text first last text) before beside.0 v (ap (λ l. slice_get (reverse l) 0) (characters-of first last text (c ∷ cs) s e) ∙ beside.2) in
           subst (λ edge. Beside rules edge (neighbour rules (last_character (reverse (spelled_text first last text) ++ before)))) (sym own)
           (subst (λ o. Beside rules (Some beside.1) (neighbour rules o)) (sym seen) beside.4)

@@ -6,11 +6,12 @@ use Rattle.std.specs.Str.{is_utf8}
 use Rattle.cm_tree.specs.declared.tree.Inline.{Inline}
 use Rattle.cm_source.specs.Texts.{spelled_bytes, is_padded, padding, spelled_code, spelled_title, spelled_target, longest_run}
 use Rattle.cm_source.specs.Inlines.{Spelled, join, between, spelled, is_line_end}
-use Rattle.cm_source.specs.steps.Utf8Inlines.{all_of, has_utf8}
-use Rattle.cm_source.proofs.lemmas.shared.InlineKinds.{text-spelled, code-spelled, html-spelled, soft-spelled, hard-spelled, emph-spelled, strong-spelled, strike-spelled, link-spelled, image-spelled, text-strings, code-strings, html-strings, emph-strings, strong-strings, strike-strings, link-strings, image-strings}
+use Rattle.cm_source.specs.steps.Utf8Inlines.{all_of, has_utf8, utf8_step}
 use Rattle.cm_source.proofs.lemmas.spelling.SpelledTexts.{inner-text}
 use Rattle.cm_source.proofs.lemmas.shared.InlineInduction.{AllHold, Cases, by-cases}
 use Rattle.cm_source.proofs.lemmas.fitting.Neighbours.{ascii-utf8, spelled-utf8}
+use Rattle.cm_tree.proofs.lemmas.InlineFolds as inline_fold
+use Rattle.cm_source.specs.Inlines as spelling
 
 -- the parts of a spelling
 
@@ -83,21 +84,21 @@ utf8-as e first last u = subst (λ (spelled : Spelled). IsUtf8 (spelled.spelling
 
 spelled-cases : Cases IsSpelledSo
 spelled-cases = record {
-  text = λ text all first last. utf8-as (sym (text-spelled text)) first last (spelled-utf8 first last text (IsUtf8-from_is_utf8 text (sym (text-strings text) ∙ all)));
-  code = λ text all first last. utf8-as (sym (code-spelled text)) first last (code-utf8 text (IsUtf8-from_is_utf8 text (sym (code-strings text) ∙ all)));
-  html = λ text all first last. utf8-as (sym (html-spelled text)) first last (IsUtf8-from_is_utf8 text (sym (html-strings text) ∙ all));
-  soft = λ all first last. utf8-as (sym soft-spelled) first last (ascii-utf8 (codes "\n") refl);
-  hard = λ all first last. utf8-as (sym hard-spelled) first last (ascii-utf8 (codes "\\\n") refl);
-  emph = λ content hold all first last. utf8-as (sym (emph-spelled content)) first last
-      (between-utf8 (codes "*") (codes "*") content (ascii-utf8 (codes "*") refl) (ascii-utf8 (codes "*") refl) hold (sym (emph-strings content) ∙ all) first last);
-  strong = λ content hold all first last. utf8-as (sym (strong-spelled content)) first last
-      (between-utf8 (codes "**") (codes "**") content (ascii-utf8 (codes "**") refl) (ascii-utf8 (codes "**") refl) hold (sym (strong-strings content) ∙ all) first last);
-  strike = λ content hold all first last. utf8-as (sym (strike-spelled content)) first last
-      (between-utf8 (codes "~~") (codes "~~") content (ascii-utf8 (codes "~~") refl) (ascii-utf8 (codes "~~") refl) hold (sym (strike-strings content) ∙ all) first last);
-  link = λ dest title content hold all first last. utf8-as (sym (link-spelled dest title content)) first last
-      (linked-utf8 (codes "[") dest title content (ascii-utf8 (codes "[") refl) hold (sym (link-strings dest title content) ∙ all) first last);
-  image = λ dest title content hold all first last. utf8-as (sym (image-spelled dest title content)) first last
-      (linked-utf8 (codes "![") dest title content (ascii-utf8 (codes "![") refl) hold (sym (image-strings dest title content) ∙ all) first last);
+  text = λ text all first last. utf8-as (sym (inline_fold.text spelling.inline_step text)) first last (spelled-utf8 first last text (IsUtf8-from_is_utf8 text (sym (inline_fold.text utf8_step text) ∙ all)));
+  code = λ text all first last. utf8-as (sym (inline_fold.code spelling.inline_step text)) first last (code-utf8 text (IsUtf8-from_is_utf8 text (sym (inline_fold.code utf8_step text) ∙ all)));
+  html = λ text all first last. utf8-as (sym (inline_fold.html spelling.inline_step text)) first last (IsUtf8-from_is_utf8 text (sym (inline_fold.html utf8_step text) ∙ all));
+  soft = λ all first last. utf8-as (sym (inline_fold.soft spelling.inline_step)) first last (ascii-utf8 (codes "\n") refl);
+  hard = λ all first last. utf8-as (sym (inline_fold.hard spelling.inline_step)) first last (ascii-utf8 (codes "\\\n") refl);
+  emph = λ content hold all first last. utf8-as (sym (inline_fold.emph spelling.inline_step content)) first last
+      (between-utf8 (codes "*") (codes "*") content (ascii-utf8 (codes "*") refl) (ascii-utf8 (codes "*") refl) hold (sym (inline_fold.emph utf8_step content) ∙ all) first last);
+  strong = λ content hold all first last. utf8-as (sym (inline_fold.strong spelling.inline_step content)) first last
+      (between-utf8 (codes "**") (codes "**") content (ascii-utf8 (codes "**") refl) (ascii-utf8 (codes "**") refl) hold (sym (inline_fold.strong utf8_step content) ∙ all) first last);
+  strike = λ content hold all first last. utf8-as (sym (inline_fold.strike spelling.inline_step content)) first last
+      (between-utf8 (codes "~~") (codes "~~") content (ascii-utf8 (codes "~~") refl) (ascii-utf8 (codes "~~") refl) hold (sym (inline_fold.strike utf8_step content) ∙ all) first last);
+  link = λ dest title content hold all first last. utf8-as (sym (inline_fold.link spelling.inline_step dest title content)) first last
+      (linked-utf8 (codes "[") dest title content (ascii-utf8 (codes "[") refl) hold (sym (inline_fold.link utf8_step dest title content) ∙ all) first last);
+  image = λ dest title content hold all first last. utf8-as (sym (inline_fold.image spelling.inline_step dest title content)) first last
+      (linked-utf8 (codes "![") dest title content (ascii-utf8 (codes "![") refl) hold (sym (inline_fold.image utf8_step dest title content) ∙ all) first last);
 }
 
 pub inline-utf8 : (i : Inline) → has_utf8 i ≡ true → (first last : Bool) → IsUtf8 ((spelled i).spelling first last)

@@ -17,8 +17,7 @@ use Rattle.cm_source.specs.Inlines.{Spelled, join, is_line_end, between, spelled
 use Rattle.cm_source.specs.Inlines as spelling
 use Rattle.cm_source.specs.InlineRefusals.{Face, is_text, Place, Judged, first_face, further_in, inside_link, refusal_of_all, emphasis, judged}
 use Rattle.cm_source.specs.InlineRefusals as refusals
-use Rattle.cm_source.specs.steps.Utf8Inlines.{all_of, has_utf8}
-use Rattle.cm_source.proofs.lemmas.shared.InlineKinds.{text-judged, code-judged, html-judged, soft-judged, hard-judged, emph-judged, strong-judged, strike-judged, link-judged, image-judged, text-spelled, code-spelled, html-spelled, soft-spelled, hard-spelled, emph-spelled, strong-spelled, strike-spelled, link-spelled, image-spelled, text-strings, code-strings, html-strings, soft-strings, hard-strings, emph-strings, strong-strings, strike-strings, link-strings, image-strings}
+use Rattle.cm_source.specs.steps.Utf8Inlines.{all_of, has_utf8, utf8_step}
 use Rattle.cm_source.proofs.lemmas.spelling.SpelledTexts.{inner-text}
 use Rattle.cm_source.proofs.lemmas.shared.InlineInduction.{AllHold, Cases, by-cases, all-by-cases}
 use Rattle.cm_source.proofs.lemmas.shared.AcceptedLemmas.{or-none, Accepted, text-accepted, html-accepted, emph-accepted, strong-accepted, strike-accepted, link-accepted, image-accepted}
@@ -27,6 +26,7 @@ use Rattle.cm_source.proofs.lemmas.fitting.SpellingsAreUtf8.{ticks-utf8, utf8-as
 use Rattle.cm_source.proofs.lemmas.fitting.InlineEdges.{second-fails, split-ascii, before-ascii, Ends}
 use Rattle.cm_source.proofs.lemmas.fitting.EdgesOfKinds.{code-ends, html-ends, soft-ends, hard-ends, between-ends, link-ends, image-ends}
 use Rattle.cm_source.proofs.lemmas.shared.ByteSpellings.{SpellsByte, ByNumber, Escaped, AsItIs, spells_edge}
+use Rattle.cm_tree.proofs.lemmas.InlineFolds as inline_fold
 
 -- ---- texts
 
@@ -36,7 +36,7 @@ spelling-first b front (Escaped punct tick) h = (92, b ∷ [], refl, omega arith
 spelling-first b front (AsItIs printed plain) h = (b, [], refl, h)
 
 -- high bytes at the start of a spelled text are in the text
-high-front : (hs more : List ℕ) (last : Bool) (text : List ℕ) → AllHigh hs → hs ++ more ≡ spelled_text false last text → (behind : List ℕ) × (text ≡ hs ++ behind) × (more ≡ spelled_text false last behind)
+high-front : (hs more : List ℕ) (last : Bool) (text : List ℕ) → AllHigh hs → hs ++ more ≡ spelled_text false last text → (beyond : List ℕ) × (text ≡ hs ++ beyond) × (more ≡ spelled_text false last beyond)
 unfolding spelled_text
 high-front [] more last text h e = (text, refl, e)
 high-front (h ∷ hs) more last [] k e = absurd (omega (arith, ap length e))
@@ -45,8 +45,8 @@ high-front (h ∷ hs) more last (b ∷ bs) k e = go (cases_lt b 128) (high-front
     at_edge : Bool
     at_edge = last && is_empty bs
 
-    go : (b < 128) ⊎ (128 ≤ b) → (hs ++ more ≡ spelled_text false last bs → (behind : List ℕ) × (bs ≡ hs ++ behind) × (more ≡ spelled_text false last behind))
-        → (behind : List ℕ) × (b ∷ bs ≡ (h ∷ hs) ++ behind) × (more ≡ spelled_text false last behind)
+    go : (b < 128) ⊎ (128 ≤ b) → (hs ++ more ≡ spelled_text false last bs → (beyond : List ℕ) × (bs ≡ hs ++ beyond) × (more ≡ spelled_text false last beyond))
+        → (beyond : List ℕ) × (b ∷ bs ≡ (h ∷ hs) ++ beyond) × (more ≡ spelled_text false last beyond)
     go (inl low) again =
         let first = spelling-first b (edge_byte at_edge b) (spells_edge at_edge b) low in
         let same = e ∙ ap (λ l. l ++ spelled_text false last bs) first.2 in
@@ -85,14 +85,14 @@ text-within (suc n) first last (b ∷ bs) few u = go (cases_lt b 128) (λ first 
                 let head : d ≡ b = ap (λ l. get_or l 0 0) same in
                 let front = high-front ds (encodes cs) last bs h.1 (ap (drop 1) same) in
                 let size : length bs ≡ length ds + length front.0 = ap length front.1 ∙ length-append ds front.0 in
-                let behind = again front.0 (omega (arith, few, size)) (cs, (parts.1, front.2)) in
+                let beyond = again front.0 (omega (arith, few, size)) (cs, (parts.1, front.2)) in
                 let whole : encode c ++ front.0 ≡ b ∷ bs = ap (λ l. l ++ front.0) f ∙ ap (λ n. n ∷ ds ++ front.0) head ∙ ap (λ l. b ∷ l) (sym front.1) in
-                subst IsUtf8 whole (IsUtf8-append (encode c) front.0 (IsUtf8-encode c parts.0) behind)
+                subst IsUtf8 whole (IsUtf8-append (encode c) front.0 (IsUtf8-encode c parts.0) beyond)
 
     go : (b < 128) ⊎ (128 ≤ b) → ((first last : Bool) (text : List ℕ) → length text ≤ n → IsUtf8 (spelled_text first last text) → IsUtf8 text) → IsUtf8 (b ∷ bs)
     go (inl low) again =
-        let behind = IsUtf8-cancel (edge_byte at_edge b) (spelled_text false last bs) (ascii-utf8 (edge_byte at_edge b) (edge-ascii at_edge b low)) u in
-        IsUtf8-append (b ∷ []) bs (ascii-utf8 (b ∷ []) (ap (λ t. t && true) (lt-ltb b 128 low))) (again false last bs (omega (arith, few)) behind)
+        let beyond = IsUtf8-cancel (edge_byte at_edge b) (spelled_text false last bs) (ascii-utf8 (edge_byte at_edge b) (edge-ascii at_edge b low)) u in
+        IsUtf8-append (b ∷ []) bs (ascii-utf8 (b ∷ []) (ap (λ t. t && true) (lt-ltb b 128 low))) (again false last bs (omega (arith, few)) beyond)
     go (inr high) again = characters u.0 high u.1.0 (u.1.1 ∙ ap (λ l. l ++ spelled_text false last bs) (high-byte at_edge b high)) (λ text few u. again false last text few u)
 
 pub text-back : (first last : Bool) (text : List ℕ) → IsUtf8 (spelled_text first last text) → IsUtf8 text
@@ -137,9 +137,9 @@ between-back : (start content : List ℕ) (x : ℕ) (more : List ℕ) → list_a
 between-back start content x more low h u = IsUtf8-cancel start content (ascii-utf8 start low) (split-ascii (start ++ content) x more h u).0
 
 -- what follows the content of a link
-target-behind : (front dest title : List ℕ) → IsUtf8 (front ++ spelled_target dest title) → IsUtf8 front × IsUtf8 (spelled_target dest title)
+target-beyond : (front dest title : List ℕ) → IsUtf8 (front ++ spelled_target dest title) → IsUtf8 front × IsUtf8 (spelled_target dest title)
 unfolding spelled_target
-target-behind front dest title u =
+target-beyond front dest title u =
     let before = (split-ascii front 93 _ (omega arith) u).0 in
     (before, IsUtf8-cancel front (spelled_target dest title) before u)
 
@@ -179,37 +179,37 @@ module _ (rules : Rules) where
   edged-cases = record {
     text = λ text place before after e.
         let a = text-accepted rules place before after text e in
-        edged-so (judged rules (Text text)) (refusals.inline_step rules (inline.Text text)) (spelled (Text text)) (spelling.inline_step (inline.Text text)) before (text-judged rules text) (text-spelled text)
+        edged-so (judged rules (Text text)) (refusals.inline_step rules (inline.Text text)) (spelled (Text text)) (spelling.inline_step (inline.Text text)) before (inline_fold.text (refusals.inline_step rules) text) (inline_fold.text spelling.inline_step text)
         (record { apart = and_left (is_text before) true a.apart; seam = λ t. absurd (cc t) });
     code = λ text place before after e.
         let k = refusals.inline_step rules (inline.Code text) in
         let t = spelling.inline_step (inline.Code text) in
-        edged-so (judged rules (Code text)) k (spelled (Code text)) t before (code-judged rules text) (code-spelled text) (not-text k t before 96 96 refl (omega arith) (omega arith) (code-ends text));
+        edged-so (judged rules (Code text)) k (spelled (Code text)) t before (inline_fold.code (refusals.inline_step rules) text) (inline_fold.code spelling.inline_step text) (not-text k t before 96 96 refl (omega arith) (omega arith) (code-ends text));
     html = λ text place before after e.
         let k = refusals.inline_step rules (inline.Html text) in
         let t = spelling.inline_step (inline.Html text) in
-        edged-so (judged rules (Html text)) k (spelled (Html text)) t before (html-judged rules text) (html-spelled text)
+        edged-so (judged rules (Html text)) k (spelled (Html text)) t before (inline_fold.html (refusals.inline_step rules) text) (inline_fold.html spelling.inline_step text)
         (not-text k t before 60 62 refl (omega arith) (omega arith) (html-ends rules text (html-accepted rules place before after text e).one_tag));
     soft = λ place before after e.
         let k = refusals.inline_step rules inline.Soft in
         let t = spelling.inline_step inline.Soft in
-        edged-so (judged rules Soft) k (spelled Soft) t before (soft-judged rules) soft-spelled (not-text k t before 10 10 refl (omega arith) (omega arith) soft-ends);
+        edged-so (judged rules Soft) k (spelled Soft) t before (inline_fold.soft (refusals.inline_step rules)) (inline_fold.soft spelling.inline_step) (not-text k t before 10 10 refl (omega arith) (omega arith) soft-ends);
     hard = λ place before after e.
         let k = refusals.inline_step rules inline.Hard in
         let t = spelling.inline_step inline.Hard in
-        edged-so (judged rules Hard) k (spelled Hard) t before (hard-judged rules) hard-spelled (not-text k t before 92 10 refl (omega arith) (omega arith) hard-ends);
-    emph = λ content hold place before after e. edged-emphasis false (Emph content) content (codes "*") 42 [] [] before (emph-judged rules content) (emph-spelled content) refl refl (omega arith);
-    strong = λ content hold place before after e. edged-emphasis false (Strong content) content (codes "**") 42 (42 ∷ []) (42 ∷ []) before (strong-judged rules content) (strong-spelled content) refl refl (omega arith);
-    strike = λ content hold place before after e. edged-emphasis true (Strike content) content (codes "~~") 126 (126 ∷ []) (126 ∷ []) before (strike-judged rules content) (strike-spelled content) refl refl (omega arith);
+        edged-so (judged rules Hard) k (spelled Hard) t before (inline_fold.hard (refusals.inline_step rules)) (inline_fold.hard spelling.inline_step) (not-text k t before 92 10 refl (omega arith) (omega arith) hard-ends);
+    emph = λ content hold place before after e. edged-emphasis false (Emph content) content (codes "*") 42 [] [] before (inline_fold.emph (refusals.inline_step rules) content) (inline_fold.emph spelling.inline_step content) refl refl (omega arith);
+    strong = λ content hold place before after e. edged-emphasis false (Strong content) content (codes "**") 42 (42 ∷ []) (42 ∷ []) before (inline_fold.strong (refusals.inline_step rules) content) (inline_fold.strong spelling.inline_step content) refl refl (omega arith);
+    strike = λ content hold place before after e. edged-emphasis true (Strike content) content (codes "~~") 126 (126 ∷ []) (126 ∷ []) before (inline_fold.strike (refusals.inline_step rules) content) (inline_fold.strike spelling.inline_step content) refl refl (omega arith);
     link = λ dest title content hold place before after e.
         let k = refusals.inline_step rules (inline.Link dest title (map (judged rules) content)) in
         let t = between (codes "[") (map spelled content) (spelled_target dest title) in
-        edged-so (judged rules (Link dest title content)) k (spelled (Link dest title content)) t before (link-judged rules dest title content) (link-spelled dest title content)
+        edged-so (judged rules (Link dest title content)) k (spelled (Link dest title content)) t before (inline_fold.link (refusals.inline_step rules) dest title content) (inline_fold.link spelling.inline_step dest title content)
         (not-text k t before 91 41 refl (omega arith) (omega arith) (link-ends dest title (map spelled content)));
     image = λ dest title content hold place before after e.
         let k = refusals.inline_step rules (inline.Image dest title (map (judged rules) content)) in
         let t = between (codes "![") (map spelled content) (spelled_target dest title) in
-        edged-so (judged rules (Image dest title content)) k (spelled (Image dest title content)) t before (image-judged rules dest title content) (image-spelled dest title content)
+        edged-so (judged rules (Image dest title content)) k (spelled (Image dest title content)) t before (inline_fold.image (refusals.inline_step rules) dest title content) (inline_fold.image spelling.inline_step dest title content)
         (not-text k t before 33 41 refl (omega arith) (omega arith) (image-ends dest title (map spelled content)));
   }
 
@@ -246,8 +246,8 @@ module _ (rules : Rules) where
           let edge = edged k (further_in place) (Some face) (first_face others) parts.0 in
           let seam = edge.seam (second-fails (is_text (Some face)) (is_text (Some (judged rules k).face)) edge.apart t) in
           let front = seam.ends.front (spelled i).begins_line (is_line_end last (map spelled ks)) in
-          let behind = join (spelled k).begins_line last (map spelled ks) in
-          let own = (split-ascii (s (k ∷ ks)) seam.x (front.0 ++ behind) seam.first_low (subst IsUtf8 (ap (λ l. s (k ∷ ks) ++ (l ++ behind)) front.1) u)).0 in
+          let beyond = join (spelled k).begins_line last (map spelled ks) in
+          let own = (split-ascii (s (k ∷ ks)) seam.x (front.0 ++ beyond) seam.first_low (subst IsUtf8 (ap (λ l. s (k ∷ ks) ++ (l ++ beyond)) front.1) u)).0 in
           (own, IsUtf8-cancel (s (k ∷ ks)) (more (k ∷ ks)) own u)
 
   abbrev HasTexts : Inline → Type 0
@@ -270,7 +270,7 @@ module _ (rules : Rules) where
       → (IsUtf8 (spelled_inlines false false content) → all_of (map has_utf8 content) ≡ true) → (is_utf8 dest && is_utf8 title && all_of (map has_utf8 content)) ≡ true
   linked-back mark dest title content low u inside =
       let inner = spelled_inlines false false content in
-      let parts = target-behind (mark ++ inner) dest title u in
+      let parts = target-beyond (mark ++ inner) dest title u in
       let strings = target-back dest title parts.1 in
       and_from (is_utf8 dest && is_utf8 title) (all_of (map has_utf8 content))
       (and_from (is_utf8 dest) (is_utf8 title) (is_utf8-from_IsUtf8 dest strings.0) (is_utf8-from_IsUtf8 title strings.1))
@@ -278,25 +278,25 @@ module _ (rules : Rules) where
 
   texts-cases : Cases HasTexts
   texts-cases = record {
-    text = λ text place before after e first last u. text-strings text ∙ is_utf8-from_IsUtf8 text (text-back first last text (utf8-as (text-spelled text) first last u));
-    code = λ text place before after e first last u. code-strings text ∙ is_utf8-from_IsUtf8 text (code-back text (utf8-as (code-spelled text) first last u));
-    html = λ text place before after e first last u. html-strings text ∙ is_utf8-from_IsUtf8 text (utf8-as (html-spelled text) first last u);
-    soft = λ place before after e first last u. soft-strings;
-    hard = λ place before after e first last u. hard-strings;
+    text = λ text place before after e first last u. inline_fold.text utf8_step text ∙ is_utf8-from_IsUtf8 text (text-back first last text (utf8-as (inline_fold.text spelling.inline_step text) first last u));
+    code = λ text place before after e first last u. inline_fold.code utf8_step text ∙ is_utf8-from_IsUtf8 text (code-back text (utf8-as (inline_fold.code spelling.inline_step text) first last u));
+    html = λ text place before after e first last u. inline_fold.html utf8_step text ∙ is_utf8-from_IsUtf8 text (utf8-as (inline_fold.html spelling.inline_step text) first last u);
+    soft = λ place before after e first last u. (inline_fold.soft utf8_step);
+    hard = λ place before after e first last u. (inline_fold.hard utf8_step);
     emph = λ content hold place before after e first last u.
-        emph-strings content ∙ content-back content hold (further_in place) None false false (emph-accepted rules place before after content e).inside
-        (between-back (codes "*") (join false false (map spelled content)) 42 [] refl (omega arith) (utf8-as (emph-spelled content) first last u));
+        inline_fold.emph utf8_step content ∙ content-back content hold (further_in place) None false false (emph-accepted rules place before after content e).inside
+        (between-back (codes "*") (join false false (map spelled content)) 42 [] refl (omega arith) (utf8-as (inline_fold.emph spelling.inline_step content) first last u));
     strong = λ content hold place before after e first last u.
-        strong-strings content ∙ content-back content hold (further_in place) None false false (strong-accepted rules place before after content e).inside
-        (between-back (codes "**") (join false false (map spelled content)) 42 (42 ∷ []) refl (omega arith) (utf8-as (strong-spelled content) first last u));
+        inline_fold.strong utf8_step content ∙ content-back content hold (further_in place) None false false (strong-accepted rules place before after content e).inside
+        (between-back (codes "**") (join false false (map spelled content)) 42 (42 ∷ []) refl (omega arith) (utf8-as (inline_fold.strong spelling.inline_step content) first last u));
     strike = λ content hold place before after e first last u.
-        strike-strings content ∙ content-back content hold (further_in place) None false false (strike-accepted rules place before after content e).inside
-        (between-back (codes "~~") (join false false (map spelled content)) 126 (126 ∷ []) refl (omega arith) (utf8-as (strike-spelled content) first last u));
+        inline_fold.strike utf8_step content ∙ content-back content hold (further_in place) None false false (strike-accepted rules place before after content e).inside
+        (between-back (codes "~~") (join false false (map spelled content)) 126 (126 ∷ []) refl (omega arith) (utf8-as (inline_fold.strike spelling.inline_step content) first last u));
     link = λ dest title content hold place before after e first last u.
-        link-strings dest title content ∙ linked-back (codes "[") dest title content refl (utf8-as (link-spelled dest title content) first last u)
+        inline_fold.link utf8_step dest title content ∙ linked-back (codes "[") dest title content refl (utf8-as (inline_fold.link spelling.inline_step dest title content) first last u)
         (content-back content hold (inside_link place) None false false (link-accepted rules place before after dest title content e).inside);
     image = λ dest title content hold place before after e first last u.
-        image-strings dest title content ∙ linked-back (codes "![") dest title content refl (utf8-as (image-spelled dest title content) first last u)
+        inline_fold.image utf8_step dest title content ∙ linked-back (codes "![") dest title content refl (utf8-as (inline_fold.image spelling.inline_step dest title content) first last u)
         (content-back content hold (further_in place) None false false (image-accepted rules place before after dest title content e).inside);
   }
 

@@ -22,9 +22,12 @@ use Rattle.cm_source.proofs.lemmas.fitting.Neighbours.{ascii-utf8}
 use Rattle.cm_source.proofs.lemmas.fitting.InlineEdges.{split-ascii}
 use Rattle.cm_source.proofs.lemmas.fitting.TextsAreUtf8.{accepted-texts}
 use Rattle.cm_source.proofs.lemmas.refusals.BlockRefusals.{seen_items}
-use Rattle.cm_source.proofs.lemmas.shared.BlockKinds.{paragraph-judged, heading-judged, quote-judged, list-judged, refused-as, paragraph-lines, heading-lines, quote-lines, list-lines, paragraph-texts, heading-texts, quote-texts, list-texts}
+use Rattle.cm_source.proofs.lemmas.shared.Alike.{refused-as}
 use Rattle.cm_source.proofs.lemmas.shared.BlockInduction.{AllHold, ItemsHold, Cases, all-by-cases}
 use Rattle.cm_source.proofs.lemmas.blocks.LeavesBack.{with_lines, join-all, parted-joined}
+use Rattle.cm_tree.proofs.lemmas.BlockFolds as block_fold
+use Rattle.cm_source.specs.Spelling as spelling
+use Rattle.cm_source.specs.Refusals as refusals
 
 -- ---- lines
 
@@ -49,29 +52,29 @@ ended-utf8 (line ∷ lines) u =
     (parts.0, ended-utf8 lines parts.1)
 
 -- lines that line feeds part, put together again
-behind-utf8 : (front : List ℕ) (lines : List (List ℕ)) → IsUtf8 front → AllUtf8 lines → IsUtf8 (with_lines front lines)
+beyond-utf8 : (front : List ℕ) (lines : List (List ℕ)) → IsUtf8 front → AllUtf8 lines → IsUtf8 (with_lines front lines)
 unfolding with_lines
-behind-utf8 front [] f u = f
-behind-utf8 front (line ∷ lines) f u = behind-utf8 (front ++ 10 ∷ line) lines (IsUtf8-append front (10 ∷ line) f (IsUtf8-append (10 ∷ []) line (ascii-utf8 (10 ∷ []) refl) u.0)) u.1
+beyond-utf8 front [] f u = f
+beyond-utf8 front (line ∷ lines) f u = beyond-utf8 (front ++ 10 ∷ line) lines (IsUtf8-append front (10 ∷ line) f (IsUtf8-append (10 ∷ []) line (ascii-utf8 (10 ∷ []) refl) u.0)) u.1
 
 joined-back : (lines : List (List ℕ)) → AllUtf8 lines → IsUtf8 (join-all lines)
 joined-back [] u = IsUtf8-nil
-joined-back (line ∷ lines) u = behind-utf8 line lines u.0 u.1
+joined-back (line ∷ lines) u = beyond-utf8 line lines u.0 u.1
 
 parted-utf8 : (text : List ℕ) → AllUtf8 (parted_lines text) → IsUtf8 text
 parted-utf8 text u = subst IsUtf8 (parted-joined text) (joined-back (parted_lines text) u)
 
 -- ---- what is before lines
 
-joined-behind : (apart : Bool) (others : List (List (List ℕ))) → AllUtf8 (flat_map (λ lines. gap apart ++ lines) others) → EachUtf8 others
-joined-behind apart [] u = tt
-joined-behind apart (lines ∷ others) u =
+joined-beyond : (apart : Bool) (others : List (List (List ℕ))) → AllUtf8 (flat_map (λ lines. gap apart ++ lines) others) → EachUtf8 others
+joined-beyond apart [] u = tt
+joined-beyond apart (lines ∷ others) u =
     let parts = both-parts (gap apart ++ lines) (flat_map (λ lines. gap apart ++ lines) others) u in
-    ((both-parts (gap apart) lines parts.0).1, joined-behind apart others parts.1)
+    ((both-parts (gap apart) lines parts.0).1, joined-beyond apart others parts.1)
 
 joined-utf8 : (apart : Bool) (all : List (List (List ℕ))) → AllUtf8 (joined apart all) → EachUtf8 all
 joined-utf8 apart [] u = tt
-joined-utf8 apart (first ∷ others) u = let parts = both-parts first (flat_map (λ lines. gap apart ++ lines) others) u in (parts.0, joined-behind apart others parts.1)
+joined-utf8 apart (first ∷ others) u = let parts = both-parts first (flat_map (λ lines. gap apart ++ lines) others) u in (parts.0, joined-beyond apart others parts.1)
 
 -- a line after a mark and a space
 spaced-utf8 : (mark line : List ℕ) → IsUtf8 (mark ++ spaced line) → IsUtf8 line
@@ -125,31 +128,31 @@ module _ (rules : Rules) where
       (items-texts kind tight items hold.1 parts.1 u.1)
 
   -- after the marks of a heading
-  behind-marks : (level : ℕ) (content : List Inline) → heading_refusal rules content ≡ None → IsUtf8 (replicate level 35 ++ after_space content) → all_of (map has_utf8 content) ≡ true
-  behind-marks level [] e u = refl
-  behind-marks level (i ∷ is) e u =
+  beyond-marks : (level : ℕ) (content : List Inline) → heading_refusal rules content ≡ None → IsUtf8 (replicate level 35 ++ after_space content) → all_of (map has_utf8 content) ≡ true
+  beyond-marks level [] e u = refl
+  beyond-marks level (i ∷ is) e u =
       accepted-texts rules of_heading (i ∷ is) e (split-ascii (replicate level 35) 32 (spelled_content (i ∷ is)) (omega arith) u).1
 
   texts-cases : Cases HasTexts
   texts-cases = record {
     paragraph = λ content before e u.
-        let accepted = (or-none _ (paragraph_refusal rules content) (refused-as (paragraph-judged rules content) before e)).1 in
-        paragraph-texts content ∙ accepted-texts rules of_paragraph content accepted
-        (parted-utf8 (spelled_content content) (subst AllUtf8 (paragraph-lines content) u));
+        let accepted = (or-none _ (paragraph_refusal rules content) (refused-as (block_fold.paragraph (refusals.block_step rules) content) before e)).1 in
+        block_fold.paragraph utf8_step content ∙ accepted-texts rules of_paragraph content accepted
+        (parted-utf8 (spelled_content content) (subst AllUtf8 (block_fold.paragraph spelling.block_step content) u));
     heading = λ level content before e u.
-        let accepted = (or-none _ (heading_refusal rules content) (refused-as (heading-judged rules level content) before e)).1 in
-        heading-texts level content ∙ behind-marks level content accepted (parted-utf8 (replicate level 35 ++ after_space content) (subst AllUtf8 (heading-lines level content) u));
+        let accepted = (or-none _ (heading_refusal rules content) (refused-as (block_fold.heading (refusals.block_step rules) level content) before e)).1 in
+        block_fold.heading utf8_step level content ∙ beyond-marks level content accepted (parted-utf8 (replicate level 35 ++ after_space content) (subst AllUtf8 (block_fold.heading spelling.block_step level content) u));
     code = λ info text before e u. simp (fold_out-Block Bool utf8_step, outs-Code);
     html = λ text before e u. simp (fold_out-Block Bool utf8_step, outs-Html);
     thematic_break = λ before e u. simp (fold_out-Block Bool utf8_step, outs-Break);
     definition = λ label dest title before e u. simp (fold_out-Block Bool utf8_step, outs-Definition);
     quote = λ blocks hold before e u.
         let lines = map lines_of_block blocks in
-        quote-texts blocks ∙ all-texts blocks hold None (refused-as (quote-judged rules blocks) before e) (joined-utf8 true lines (quote-utf8 (joined true lines) (subst AllUtf8 (quote-lines blocks) u)));
+        block_fold.quote utf8_step blocks ∙ all-texts blocks hold None (refused-as (block_fold.quote (refusals.block_step rules) blocks) before e) (joined-utf8 true lines (quote-utf8 (joined true lines) (subst AllUtf8 (block_fold.quote spelling.block_step blocks) u)));
     list = λ kind tight items hold before e u.
-        let accepted = (or-none (refused (list_reasons kind tight (seen_items rules items) before)) (refusal_of_items (map (map (judged_block rules)) items)) (refused-as (list-judged rules kind tight items) before e)).1 in
-        list-texts kind tight items ∙ items-texts kind tight items hold accepted
-        (joined-utf8 (not tight) (map (λ blocks. item_lines (marker kind) (joined (not tight) blocks)) (map (map lines_of_block) items)) (subst AllUtf8 (list-lines kind tight items) u));
+        let accepted = (or-none (refused (list_reasons kind tight (seen_items rules items) before)) (refusal_of_items (map (map (judged_block rules)) items)) (refused-as (block_fold.list (refusals.block_step rules) kind tight items) before e)).1 in
+        block_fold.list utf8_step kind tight items ∙ items-texts kind tight items hold accepted
+        (joined-utf8 (not tight) (map (λ blocks. item_lines (marker kind) (joined (not tight) blocks)) (map (map lines_of_block) items)) (subst AllUtf8 (block_fold.list spelling.block_step kind tight items) u));
   }
 
 pub spellings_have_texts : SpellingsHaveTexts

@@ -5,10 +5,11 @@ use Rattle.std.proofs.lemmas.Bool.{and_parts, and_right, or_parts, cond-true, co
 use Rattle.cm_text.specs.Rules.{Rules}
 use Rattle.cm_tree.specs.declared.tree.Inline.TheVariants.{Code}
 use Rattle.cm_scan.specs.Words.{is_empty, begins_with, run_length, after_run}
-use Rattle.cm_scan.specs.inlines.Links.{Reading, behind}
+use Rattle.cm_scan.specs.inlines.Links.{Reading, beyond}
 use Rattle.cm_scan.specs.spans.Autolinks.{ends_with}
-use Rattle.cm_scan.specs.spans.CodeSpans.{up_to_run, one_line, but_last, stripped, span_content, spanned, code_span}
+use Rattle.cm_scan.specs.spans.CodeSpans.{up_to_run, one_line, but_last, stripped, code_span, span_content}
 use Rattle.cm_scan.specs.inlines.Atoms.{AtomRead, Plain, Whole, read, or_byte, backtick_atom, markup_atom, atom_at}
+use Rattle.cm_scan.specs.steps.SpanSteps.{spanned}
 use Rattle.cm_source.specs.Texts.{longest_run, is_padded, spelled_code}
 use Rattle.cm_source.specs.InlineRefusals.{has_line_ending}
 use Rattle.cm_source.proofs.lemmas.inlines.BytesRead.{atom_left, reading, run_none}
@@ -21,10 +22,10 @@ unfolding run_length
 run_of_marks zero rest = omega arith
 run_of_marks (suc n) rest = omega (arith, run_of_marks n rest)
 
-behind_marks : (n : ℕ) (rest : List ℕ) → begins_with 96 rest ≡ false → after_run 96 (replicate n 96 ++ rest) ≡ rest
+after_marks : (n : ℕ) (rest : List ℕ) → begins_with 96 rest ≡ false → after_run 96 (replicate n 96 ++ rest) ≡ rest
 unfolding after_run
-behind_marks zero rest e = (run_none 96 rest e).1
-behind_marks (suc n) rest e = behind_marks n rest e
+after_marks zero rest e = (run_none 96 rest e).1
+after_marks (suc n) rest e = after_marks n rest e
 
 marks_alone : (n : ℕ) (rest : List ℕ) → begins_with 96 rest ≡ false → run_length 96 (replicate n 96 ++ rest) ≡ n
 marks_alone n rest e = omega (arith, run_of_marks n rest, (run_none 96 rest e).0)
@@ -79,12 +80,12 @@ up_to_marks : (n : ℕ) (rest : List ℕ) → begins_with 96 rest ≡ false → 
 unfolding up_to_run ends_in_run
 up_to_marks n rest r [] true e l = absurd (false≢true (sym e))
 up_to_marks n rest r [] false e l =
-    ap (λ t. elim t as (λ _. Option Reading) [ true ↦ Some (reading [] (after_run 96 (replicate (suc n) 96 ++ rest))) | false ↦ behind 96 (up_to_run (suc n) true (replicate n 96 ++ rest)) ])
+    ap (λ t. elim t as (λ _. Option Reading) [ true ↦ Some (reading [] (after_run 96 (replicate (suc n) 96 ++ rest))) | false ↦ beyond 96 (up_to_run (suc n) true (replicate n 96 ++ rest)) ])
     (eq-eqb (run_length 96 (replicate (suc n) 96 ++ rest)) (suc n) (marks_alone (suc n) rest r))
-    ∙ ap (λ t. Some (reading [] t)) (behind_marks (suc n) rest r)
+    ∙ ap (λ t. Some (reading [] t)) (after_marks (suc n) rest r)
 up_to_marks n rest r (b ∷ bs) in_run e l =
-    ap (λ t. elim t as (λ _. Option Reading) [ true ↦ Some (reading [] (after_run 96 ((b ∷ bs) ++ marks))) | false ↦ behind b (up_to_run (suc n) (b == 96) (bs ++ marks)) ]) (goes_on (b == 96) in_run refl e)
-    ∙ ap (behind b) (up_to_marks n rest r bs (b == 96) e (longest_of_rest b n bs l))
+    ap (λ t. elim t as (λ _. Option Reading) [ true ↦ Some (reading [] (after_run 96 ((b ∷ bs) ++ marks))) | false ↦ beyond b (up_to_run (suc n) (b == 96) (bs ++ marks)) ]) (goes_on (b == 96) in_run refl e)
+    ∙ ap (beyond b) (up_to_marks n rest r bs (b == 96) e (longest_of_rest b n bs l))
   where
     marks : List ℕ
     marks = replicate (suc n) 96 ++ rest
@@ -102,7 +103,7 @@ span_read : (n : ℕ) (text rest : List ℕ) → begins_with 96 rest ≡ false �
 unfolding code_span
 span_read n text rest r b e l =
     ap (λ k. spanned k (after_run 96 (replicate (suc n) 96 ++ inside))) (marks_alone (suc n) inside b)
-    ∙ ap (spanned (suc n)) (behind_marks (suc n) inside b)
+    ∙ ap (spanned (suc n)) (after_marks (suc n) inside b)
     ∙ ap span_content (up_to_marks n rest r text false e l)
   where
     inside : List ℕ

@@ -24,9 +24,11 @@ use Rattle.cm_source.proofs.lemmas.inlines.BytesRead.{ReadsAs, left_with, atom_l
 use Rattle.cm_source.proofs.lemmas.inlines.CodesRead.{atom_code}
 use Rattle.cm_source.proofs.lemmas.inlines.TagsRead.{some_tag, atom_tag}
 use Rattle.cm_source.proofs.lemmas.inlines.TargetsRead.{end_read}
-use Rattle.cm_source.proofs.lemmas.shared.InlineKinds.{text-judged, code-judged, html-judged, soft-judged, hard-judged, emph-judged, strong-judged, strike-judged, link-judged, image-judged, text-spelled, code-spelled, html-spelled, soft-spelled, hard-spelled, emph-spelled, strong-spelled, strike-spelled, link-spelled, image-spelled, its-spelling}
+use Rattle.cm_source.proofs.lemmas.shared.Alike.{its-spelling}
 use Rattle.cm_source.proofs.lemmas.inlines.InlineItems.{Shape, Nothing, Bytes, Marked, opening, closing, emphasis, emphasis_is}
 use Rattle.cm_source.proofs.lemmas.inlines.InlineItems as shape
+use Rattle.cm_tree.proofs.lemmas.InlineFolds as inline_fold
+use Rattle.cm_source.specs.Inlines as spelling
 
 -- ---- how an inline is seen and spelled
 
@@ -39,14 +41,14 @@ seen-as : (rules : Rules) {inline : Inline} {j : Judged} → judged rules inline
 seen-as rules e = record { text = ap (λ (j : Judged). is_text (Some j.face)) e; link = ap (λ (j : Judged). j.has_link) e }
 
 marked_seen : (rules : Rules) (mark : Mark) (content : List Inline) → Seen rules (emphasised (character_of mark) (count_of mark) content) false (hold_link (map (judged rules) content))
-marked_seen rules Star content = seen-as rules (emph-judged rules content)
-marked_seen rules TwoStars content = seen-as rules (strong-judged rules content)
-marked_seen rules TwoTildes content = seen-as rules (strike-judged rules content)
+marked_seen rules Star content = seen-as rules (inline_fold.emph (refusals.inline_step rules) content)
+marked_seen rules TwoStars content = seen-as rules (inline_fold.strong (refusals.inline_step rules) content)
+marked_seen rules TwoTildes content = seen-as rules (inline_fold.strike (refusals.inline_step rules) content)
 
 marked_is : (mark : Mark) (content : List Inline) (first last : Bool) → (spelled (emphasised (character_of mark) (count_of mark) content)).spelling first last ≡ written mark ++ spelled_inlines false false content ++ written mark
-marked_is Star content first last = its-spelling (emph-spelled content) first last
-marked_is TwoStars content first last = its-spelling (strong-spelled content) first last
-marked_is TwoTildes content first last = its-spelling (strike-spelled content) first last
+marked_is Star content first last = its-spelling (inline_fold.emph spelling.inline_step content) first last
+marked_is TwoStars content first last = its-spelling (inline_fold.strong spelling.inline_step content) first last
+marked_is TwoTildes content first last = its-spelling (inline_fold.strike spelling.inline_step content) first last
 
 -- ---- items without brackets
 
@@ -282,7 +284,7 @@ module _ (rules : Rules) (defined : Defined) where
   read_text : (runs first last : Bool) (before text rest : List ℕ) → is_empty text ≡ false → has_nul text ≡ false → (last ≡ false → begins_with 10 (after_run 32 rest) ≡ false)
       → IsRead runs before (spelled_text first last text) rest (Text text)
   read_text runs first last before text rest some free line =
-      let seen = seen-as rules (text-judged rules text) in
+      let seen = seen-as rules (inline_fold.text (refusals.inline_step rules) text) in
       record {
         items = one_by_one text;
         shaped = λ text_first inlines others e s.
@@ -332,7 +334,7 @@ module _ (rules : Rules) (defined : Defined) where
       → AreRead true (91 ∷ before) front (spelled_target dest title ++ rest) content
       → IsRead runs before (codes "[" ++ (front ++ spelled_target dest title)) rest (Link dest title content)
   read_link runs before front rest dest title content d t none f inner =
-      one_item runs before (codes "[" ++ (front ++ spelled_target dest title)) rest (Link dest title content) true (seen-as rules (link-judged rules dest title content))
+      one_item runs before (codes "[" ++ (front ++ spelled_target dest title)) rest (Link dest title content) true (seen-as rules (inline_fold.link (refusals.inline_step rules) dest title content))
       (subst (λ c. ReadsAs rules defined before (codes "[" ++ (front ++ spelled_target dest title)) rest (Linked (Link dest title c) ∷ [])) (emphasis_is inner.shaped)
       (reads_brackets before front dest title rest inner.items false inner.brackets (inner.links ∙ none) d t f inner.reads))
 
@@ -340,7 +342,7 @@ module _ (rules : Rules) (defined : Defined) where
       → AreRead true (91 ∷ 33 ∷ before) front (spelled_target dest title ++ rest) content
       → IsRead runs before (codes "![" ++ (front ++ spelled_target dest title)) rest (Image dest title content)
   read_image runs before front rest dest title content d t f inner =
-      one_item runs before whole rest image (hold_link (map (judged rules) content)) (seen-as rules (image-judged rules dest title content))
+      one_item runs before whole rest image (hold_link (map (judged rules) content)) (seen-as rules (inline_fold.image (refusals.inline_step rules) dest title content))
       (subst (λ linked. ReadsAs rules defined before whole rest (single linked image ∷ [])) inner.links
       (subst (λ c. ReadsAs rules defined before whole rest (single (holds_link inner.items) (Image dest title c) ∷ [])) (emphasis_is inner.shaped)
       (reads_brackets before front dest title rest inner.items true inner.brackets refl d t f inner.reads)))
@@ -353,12 +355,12 @@ module _ (rules : Rules) (defined : Defined) where
 
   read_html : (runs : Bool) (before text rest : List ℕ) → refusals.is_one_tag rules text ≡ true → IsRead runs before text rest (Html text)
   read_html runs before [] rest e = absurd (some_tag rules e)
-  read_html runs before (b ∷ bs) rest e = one_item runs before (b ∷ bs) rest (Html (b ∷ bs)) false (seen-as rules (html-judged rules (b ∷ bs))) (reads_whole before b bs rest (Html (b ∷ bs)) (atom_tag rules before b bs rest e))
+  read_html runs before (b ∷ bs) rest e = one_item runs before (b ∷ bs) rest (Html (b ∷ bs)) false (seen-as rules (inline_fold.html (refusals.inline_step rules) (b ∷ bs))) (reads_whole before b bs rest (Html (b ∷ bs)) (atom_tag rules before b bs rest e))
 
   read_code : (runs : Bool) (before text rest : List ℕ) → is_empty text ≡ false → refusals.has_line_ending text ≡ false → begins_with 96 rest ≡ false → IsRead runs before (spelled_code text) rest (Code text)
   unfolding spelled_code
   read_code runs before text rest some line ends =
-      one_item runs before (spelled_code text) rest (Code text) false (seen-as rules (code-judged rules text)) (reads_whole before 96 (drop 1 (spelled_code text)) rest (Code text) (atom_code rules before text rest some line ends))
+      one_item runs before (spelled_code text) rest (Code text) false (seen-as rules (inline_fold.code (refusals.inline_step rules) text)) (reads_whole before 96 (drop 1 (spelled_code text)) rest (Code text) (atom_code rules before text rest some line ends))
 
   mutual
     unfolding NoBrackets holds_link
@@ -366,22 +368,22 @@ module _ (rules : Rules) (defined : Defined) where
     read_one : {emphasised first last : Bool} {before : List ℕ} {inline : Inline} {rest : List ℕ} → Fits rules emphasised first last before inline rest
         → IsRead emphasised before ((spelled inline).spelling first last) rest inline
     read_one {emphasised} {first} {last} {before} {inline} {rest} (FitsText {text = text} some free line) =
-        subst (λ t. IsRead emphasised before t rest (Text text)) (sym (its-spelling (text-spelled text) first last)) (read_text emphasised first last before text rest some free line)
+        subst (λ t. IsRead emphasised before t rest (Text text)) (sym (its-spelling (inline_fold.text spelling.inline_step text) first last)) (read_text emphasised first last before text rest some free line)
     read_one {emphasised} {first} {last} {before} {inline} {rest} (FitsCode {text = text} some line ends) =
-        subst (λ t. IsRead emphasised before t rest (Code text)) (sym (its-spelling (code-spelled text) first last)) (read_code emphasised before text rest some line ends)
+        subst (λ t. IsRead emphasised before t rest (Code text)) (sym (its-spelling (inline_fold.code spelling.inline_step text) first last)) (read_code emphasised before text rest some line ends)
     read_one {emphasised} {first} {last} {before} {inline} {rest} (FitsHtml {text = text} tag) =
-        subst (λ t. IsRead emphasised before t rest (Html text)) (sym (its-spelling (html-spelled text) first last)) (read_html emphasised before text rest tag)
+        subst (λ t. IsRead emphasised before t rest (Html text)) (sym (its-spelling (inline_fold.html spelling.inline_step text) first last)) (read_html emphasised before text rest tag)
     read_one {emphasised} {first} {last} {before} {inline} {rest} FitsSoft =
-        subst (λ t. IsRead emphasised before t rest Soft) (sym (its-spelling soft-spelled first last)) (one_item emphasised before (10 ∷ []) rest Soft false (seen-as rules (soft-judged rules)) (reads_whole before 10 [] rest Soft (atom_soft rules before rest)))
+        subst (λ t. IsRead emphasised before t rest Soft) (sym (its-spelling (inline_fold.soft spelling.inline_step) first last)) (one_item emphasised before (10 ∷ []) rest Soft false (seen-as rules (inline_fold.soft (refusals.inline_step rules))) (reads_whole before 10 [] rest Soft (atom_soft rules before rest)))
     read_one {emphasised} {first} {last} {before} {inline} {rest} FitsHard =
-        subst (λ t. IsRead emphasised before t rest Hard) (sym (its-spelling hard-spelled first last)) (one_item emphasised before (92 ∷ 10 ∷ []) rest Hard false (seen-as rules (hard-judged rules)) (reads_whole before 92 (10 ∷ []) rest Hard (atom_hard rules before rest)))
+        subst (λ t. IsRead emphasised before t rest Hard) (sym (its-spelling (inline_fold.hard spelling.inline_step) first last)) (one_item emphasised before (92 ∷ 10 ∷ []) rest Hard false (seen-as rules (inline_fold.hard (refusals.inline_step rules))) (reads_whole before 92 (10 ∷ []) rest Hard (atom_hard rules before rest)))
     read_one {emphasised} {first} {last} {before} {inline} {rest} (FitsEmphasis {content = content} mark between fits) =
         subst (λ t. IsRead true before t rest (emphasis mark content)) (sym (marked_is mark content first last)) (read_marked mark before (spelled_inlines false false content) rest content between (read_all fits))
     read_one {emphasised} {first} {last} {before} {inline} {rest} (FitsLink {dest = dest} {title = title} {content = content} d t none f fits) =
-        subst (λ s. IsRead emphasised before s rest (Link dest title content)) (sym (its-spelling (link-spelled dest title content) first last ∙ append_assoc (codes "[") (spelled_inlines false false content) (spelled_target dest title)))
+        subst (λ s. IsRead emphasised before s rest (Link dest title content)) (sym (its-spelling (inline_fold.link spelling.inline_step dest title content) first last ∙ append_assoc (codes "[") (spelled_inlines false false content) (spelled_target dest title)))
         (read_link emphasised before (spelled_inlines false false content) rest dest title content d t none f (read_all fits))
     read_one {emphasised} {first} {last} {before} {inline} {rest} (FitsImage {dest = dest} {title = title} {content = content} d t f fits) =
-        subst (λ s. IsRead emphasised before s rest (Image dest title content)) (sym (its-spelling (image-spelled dest title content) first last ∙ append_assoc (codes "![") (spelled_inlines false false content) (spelled_target dest title)))
+        subst (λ s. IsRead emphasised before s rest (Image dest title content)) (sym (its-spelling (inline_fold.image spelling.inline_step dest title content) first last ∙ append_assoc (codes "![") (spelled_inlines false false content) (spelled_target dest title)))
         (read_image emphasised before (spelled_inlines false false content) rest dest title content d t f (read_all fits))
 
     read_all : {emphasised first last : Bool} {before : List ℕ} {inlines : List Inline} {rest : List ℕ} → FitsAll rules emphasised first last before inlines rest

@@ -170,9 +170,9 @@ unfolding AllDone
 pushed done item h k = done_append done (item ∷ []) h (k, tt)
 
 -- after one item more
-behind_item : {text_first : Bool} {inlines : List Inline} {items : List Item} (item : Item) → IsDone item → (rest : Flat text_first inlines items)
+after_item : {text_first : Bool} {inlines : List Inline} {items : List Item} (item : Item) → IsDone item → (rest : Flat text_first inlines items)
     → (done : List Item) → AllDone done → pair_all (done ++ item ∷ items) ≡ done ++ item ∷ rest.flat
-behind_item {items = items} item is rest done h =
+after_item {items = items} item is rest done h =
     ap pair_all (sym (append_assoc done (item ∷ []) items)) ∙ rest.pairs (done ++ item ∷ []) (pushed done item h is) ∙ append_assoc done (item ∷ []) rest.flat
 
 flattened : {text_first : Bool} {inlines : List Inline} {items : List Item} → Shape true text_first inlines items → Flat text_first inlines items
@@ -189,8 +189,8 @@ flattened (Bytes {text = text} {items = items} some more) =
       pairs = λ done h. ap pair_all (sym (append_assoc done (one_by_one text) items))
           ∙ rest.pairs (done ++ one_by_one text) (done_append done (one_by_one text) h (done_bytes text)) ∙ append_assoc done (one_by_one text) rest.flat;
     }
-flattened (Whole {inline = inline} more) = let rest = flattened more in record { flat = Finished inline ∷ rest.flat; shape = Whole rest.shape; pairs = behind_item (Finished inline) tt rest }
-flattened (Link {inline = inline} more) = let rest = flattened more in record { flat = Linked inline ∷ rest.flat; shape = Link rest.shape; pairs = behind_item (Linked inline) tt rest }
+flattened (Whole {inline = inline} more) = let rest = flattened more in record { flat = Finished inline ∷ rest.flat; shape = Whole rest.shape; pairs = after_item (Finished inline) tt rest }
+flattened (Link {inline = inline} more) = let rest = flattened more in record { flat = Linked inline ∷ rest.flat; shape = Link rest.shape; pairs = after_item (Linked inline) tt rest }
 flattened (Marked {content = content} {inside = inside} {items = items} mark opens closes within more) =
     let rest = flattened more in
     let made = Finished (emphasis mark content) in
@@ -200,7 +200,7 @@ flattened (Marked {content = content} {inside = inside} {items = items} mark ope
       pairs = λ done h. ap pair_all (sym (append_assoc done (Delimiters (opening mark closes) ∷ inside) (Delimiters (closing mark opens) ∷ items)))
           ∙ pair_all-once _ _ (pairs_first done inside items mark opens closes h (done_shape within))
           ∙ ap (λ t. pair_all (done ++ (Finished (emphasis mark t) ∷ items))) (settled_is within)
-          ∙ behind_item made tt rest done h;
+          ∙ after_item made tt rest done h;
     }
 
 -- what is made of the items is the inlines

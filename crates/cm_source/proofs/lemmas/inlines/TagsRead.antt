@@ -3,8 +3,9 @@ use Rattle.std.proofs.Common.{◌≡◌, ℕ, ◌-◌, true, List, [], ◌∷◌
 use Rattle.cm_text.specs.Rules.{Rules}
 use Rattle.cm_tree.specs.declared.tree.Inline.TheVariants.{Html}
 use Rattle.cm_scan.specs.spans.RawHtml.{raw_html}
-use Rattle.cm_scan.specs.spans.Angles.{Angled, Addressed, Tagged, before, tagged, at_angle}
+use Rattle.cm_scan.specs.spans.Angles.{Angled, Addressed, Tagged, before, at_angle}
 use Rattle.cm_scan.specs.inlines.Atoms.{AtomRead, Whole, read, link_of, or_byte, angle_atom, markup_atom, atom_at}
+use Rattle.cm_scan.specs.steps.SpanSteps.{tagged}
 use Rattle.cm_scan.proofs.lemmas.spans.AngledGoesOn.{whole_tag_goes_on}
 use Rattle.cm_source.specs.InlineRefusals.{is_one_tag}
 use Rattle.cm_source.proofs.lemmas.inlines.BytesRead.{atom_left}

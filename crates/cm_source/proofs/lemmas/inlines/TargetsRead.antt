@@ -8,9 +8,9 @@ use Rattle.cm_text.specs.Characters.{is_ascii_punct}
 use Rattle.cm_text.specs.Rules.{Rules}
 use Rattle.cm_text.specs.Addresses.{is_followed}
 use Rattle.cm_text.specs.Unescaping.{unescape}
-use Rattle.cm_scan.specs.Words.{begins_with, skip, trim_start, after_word, given}
+use Rattle.cm_scan.specs.Words.{begins_with, skip, trim_start, after_word, given, ◌<|>◌}
 use Rattle.cm_scan.specs.spans.Tags.{after_gap}
-use Rattle.cm_scan.specs.inlines.Links.{Reading, behind, keep_if, escapes_next, up_to_closing, destination, has_blank_line, has_no_blank_line, title_in, title}
+use Rattle.cm_scan.specs.inlines.Links.{Reading, beyond, keep_if, escapes_next, up_to_closing, destination, has_blank_line, has_no_blank_line, title_in, title}
 use Rattle.cm_scan.specs.inlines.Brackets.{LinkEnd, link_end, closed, after_destination, inline_end, Defined, reference_end, end_if_followed, end_at}
 use Rattle.cm_source.specs.Texts.{numbered, spelled_bytes, spelled_title, spelled_target}
 use Rattle.cm_source.specs.InlineRefusals.{has_nul}
@@ -24,17 +24,17 @@ use Rattle.cm_source.proofs.lemmas.shared.BytesOfSpellings.{bytes-without}
 -- bytes before what was read
 onto : List ℕ → Option Reading → Option Reading
 onto [] o = o
-onto (b ∷ bs) o = behind b (onto bs o)
+onto (b ∷ bs) o = beyond b (onto bs o)
 
 onto_append : (xs ys : List ℕ) (o : Option Reading) → onto (xs ++ ys) o ≡ onto xs (onto ys o)
 unfolding onto
 onto_append [] ys o = refl
-onto_append (x ∷ xs) ys o = ap (behind x) (onto_append xs ys o)
+onto_append (x ∷ xs) ys o = ap (beyond x) (onto_append xs ys o)
 
 onto_read : (xs text rest : List ℕ) → onto xs (Some (reading text rest)) ≡ Some (reading (xs ++ text) rest)
 unfolding onto
 onto_read [] text rest = refl
-onto_read (x ∷ xs) text rest = ap (behind x) (onto_read xs text rest)
+onto_read (x ∷ xs) text rest = ap (beyond x) (onto_read xs text rest)
 
 -- ---- up to the byte that closes
 
@@ -54,11 +54,11 @@ passed_is b e = or_parts (is_stop b) (b == 92) (not-true (is_stop b || b == 92) 
 
 module _ (closes forbidden : ℕ → Bool) (others : PassesOthers closes forbidden) where
   by_tests : ℕ → (rest : List ℕ) → (closing barred escaped : Bool) → Option Reading
-  by_tests b rest closing barred escaped = elim closing [ true ↦ Some (reading [] rest) | false ↦ elim barred [ true ↦ None | false ↦ behind b (up_to_closing closes forbidden escaped rest) ] ]
+  by_tests b rest closing barred escaped = elim closing [ true ↦ Some (reading [] rest) | false ↦ elim barred [ true ↦ None | false ↦ beyond b (up_to_closing closes forbidden escaped rest) ] ]
 
   -- a byte that neither ends the part nor is forbidden
   byte_passed : (b : ℕ) (rest : List ℕ) (escaped : Bool) → is_stop b ≡ false → escapes_next b rest ≡ escaped
-      → up_to_closing closes forbidden false (b ∷ rest) ≡ behind b (up_to_closing closes forbidden escaped rest)
+      → up_to_closing closes forbidden false (b ∷ rest) ≡ beyond b (up_to_closing closes forbidden escaped rest)
   unfolding up_to_closing by_tests
   byte_passed b rest escaped e f =
       ap (λ t. by_tests b rest t (forbidden b) (escapes_next b rest)) (others b e).0
@@ -71,7 +71,7 @@ module _ (closes forbidden : ℕ → Bool) (others : PassesOthers closes forbidd
   bytes_passed (b ∷ bs) rest e =
       let both = and_parts (is_passed b) (list_all is_passed bs) e in
       let no = passed_is b both.0 in
-      byte_passed b (bs ++ rest) false no.0 (escapes-none b (bs ++ rest) no.1) ∙ ap (behind b) (bytes_passed bs rest both.1)
+      byte_passed b (bs ++ rest) false no.0 (escapes-none b (bs ++ rest) no.1) ∙ ap (beyond b) (bytes_passed bs rest both.1)
 
   numbers_pass : agree_below (λ b. list_all is_passed (numbered b)) (λ b. true) 128 ≡ true
   unfolding digits
@@ -165,10 +165,10 @@ end_read rules defined between dest text rest h k followed =
     (ap inline_end (target_parts dest text rest) ∙ inline_end_read dest text rest
     ∙ ap (λ t. Some (link_end (t, unescape (spelled_bytes text)) rest)) (unescape_bytes dest h)
     ∙ ap (λ t. Some (link_end (dest, t) rest)) (unescape_bytes text k))
-    ∙ ap (λ (t : Bool). first (elim t as (λ _. Option LinkEnd) [ true ↦ Some (link_end (dest, text) rest) | false ↦ None ])) followed
+    ∙ ap (λ (t : Bool). first (given t (link_end (dest, text) rest))) followed
   where
     first : Option LinkEnd → Option LinkEnd
-    first o = elim o as (λ _. Option LinkEnd) [ Some end ↦ Some end | None ↦ end_if_followed rules (reference_end defined between (drop 1 (spelled_target dest text) ++ rest)) ]
+    first o = o <|> end_if_followed rules (reference_end defined between (drop 1 (spelled_target dest text) ++ rest))
 
     by_inline : Option LinkEnd → Option LinkEnd
     by_inline o = first (end_if_followed rules o)

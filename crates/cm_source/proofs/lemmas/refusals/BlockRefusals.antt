@@ -9,11 +9,12 @@ use Rattle.cm_tree.specs.declared.tree.ListKind.{ListKind}
 use Rattle.cm_scan.specs.Words.{◌<|>◌}
 use Rattle.cm_source.specs.InlineRefusals.{refused}
 use Rattle.cm_source.specs.Refusals as refusals
-use Rattle.cm_source.specs.Refusals.{is_list, has_two, can_follow, is_tight_item, is_filled, faces, list_reasons, refusal_of_items, JudgedBlock, block_step, judged_block}
+use Rattle.cm_source.specs.Refusals.{is_list, has_two, can_follow, is_tight_item, is_filled, faces, list_reasons, refusal_of_items, JudgedBlock, judged_block}
 use Rattle.cm_source.specs.declared.refusals.Face.{Face}
 use Rattle.cm_source.specs.declared.refusals.Face.TheVariants.{Paragraph, Code, Quote, List as ListFace, Other}
-use Rattle.cm_source.specs.steps.BlockFaces.{shown, is_paragraph}
-use Rattle.cm_source.proofs.lemmas.shared.BlockKinds.{list-judged}
+use Rattle.cm_source.specs.steps.BlockFaces.{is_paragraph}
+use Rattle.cm_source.specs.Faces.{shown}
+use Rattle.cm_tree.proofs.lemmas.BlockFolds as block_fold
 
 pub filled-first : (rules : Rules) (item : List Block) (items : List (List Block)) → not (length item == 0) ≡ is_filled (map (map (judged_block rules)) (item ∷ items))
 filled-first rules [] items = refl
@@ -64,4 +65,4 @@ tight-pair refusals.OtherBlockFace next = refl
 
 pub list-refused : (rules : Rules) (list : Block) (kind : ListKind) (tight : Bool) (items : List (List Block)) (before : Option refusals.BlockFace) → list ≡ ListBlock kind tight items
     → (judged_block rules list).refusal before ≡ refused (list_reasons kind tight (seen_items rules items) before) <|> refusal_of_items (map (map (judged_block rules)) items)
-list-refused rules list kind tight items before e = ap (λ (j : JudgedBlock). j.refusal before) (ap (judged_block rules) e ∙ list-judged rules kind tight items)
+list-refused rules list kind tight items before e = ap (λ (j : JudgedBlock). j.refusal before) (ap (judged_block rules) e ∙ block_fold.list (refusals.block_step rules) kind tight items)

@@ -1,17 +1,19 @@
 -- A text that, read alone, is one HTML block which ends with its last line.
-use Rattle.std.proofs.Common.{◌≡◌, ℕ, suc, ◌==◌, ◌&&◌, ◌||◌, not, Bool, true, false, List, [], ◌∷◌, ◌++◌, length, drop, map, refl, sym, ap, subst, ◌∙◌, Option, Some, None, append_assoc, append-nil, length-append, arith, eq-eqb, if◌then◌else◌}
+use Rattle.std.proofs.Common.{◌≡◌, ℕ, suc, ◌==◌, ◌&&◌, ◌||◌, not, Bool, true, false, List, [], ◌∷◌, ◌++◌, length, drop, map, refl, sym, ap, subst, ◌∙◌, Option, Some, None, append_assoc, append-nil, length-append, arith, if◌then◌else◌}
 use Rattle.std.proofs.Math.Bool.{and-true, and-false}
 use mathlib.Core.Bool.{beq}
-use Rattle.std.proofs.lemmas.Bool.{eqb-true, ne_eqb, and_parts, not-true, true_from_ne_false}
+use Rattle.std.proofs.lemmas.Bool.{eqb-true, ne_eqb, and_parts, not-true, true_from_ne_false, false_from_ne_true}
+use Rattle.std.proofs.lemmas.Slice.Eq.{bytes_eq-Decides}
 use Rattle.std.proofs.lemmas.Grind.{flat_map-append}
 use Rattle.std.proofs.lemmas.List.Folds.{list_all-append, list_any-append}
 use Rattle.std.specs.Option.{is_some}
 use Rattle.std.specs.List.{flat_map, list_all, list_any}
+use Rattle.std.specs.Str.{bytes_eq}
 use Rattle.cm_text.specs.LineText.{is_line, is_line_ending}
 use Rattle.cm_text.specs.Rules.{Rules}
 use Rattle.cm_text.specs.Lines.{plain_line, plain_lines_of, lines_of, lines_after, with_line_feed}
 use Rattle.cm_text.proofs.lemmas.LinesLemmas.{lines_are_computed, lines_are_lines, lines_with_line_feeds}
-use Rattle.cm_scan.specs.Words.{is_empty, begins_with, is_blank_text, same_bytes, given, run_length, after_run}
+use Rattle.cm_scan.specs.Words.{is_empty, begins_with, is_blank_text, given, run_length, after_run}
 use Rattle.cm_scan.specs.spans.Autolinks.{ends_with}
 use Rattle.cm_scan.specs.blocks.LineForms.{atx_heading, opening_fence, fence_of}
 use Rattle.cm_scan.specs.blocks.HtmlBlocks.{HtmlKind, html_start, is_html_end, ends_at_blank_line}
@@ -182,26 +184,7 @@ whole kind line lines = go (ends_at_blank_line kind) refl
 
 -- the text of an HTML block is the whole of the text just where no line is left
 
-same-refl : (text : List ℕ) → same_bytes text text ≡ true
-unfolding same_bytes
-same-refl [] = refl
-same-refl (b ∷ bs) = ap (λ v. v && same_bytes bs bs) (eq-eqb b b refl) ∙ same-refl bs
-
-same-true : (one other : List ℕ) → same_bytes one other ≡ true → one ≡ other
-unfolding same_bytes
-same-true [] [] e = refl
-same-true [] (c ∷ cs) e = absurd (cc e)
-same-true (b ∷ bs) [] e = absurd (cc e)
-same-true (b ∷ bs) (c ∷ cs) e = let h = and_parts (b == c) (same_bytes bs cs) e in ap (λ x. x ∷ bs) (eqb-true b c h.0) ∙ ap (λ t. c ∷ t) (same-true bs cs h.1)
-
-same-false : (one other : List ℕ) → (one ≡ other → ⊥) → same_bytes one other ≡ false
-same-false one other differ = go (same_bytes one other) refl
-  where
-    go : (v : Bool) → same_bytes one other ≡ v → v ≡ false
-    go true e = absurd (differ (same-true one other e))
-    go false e = refl
-
-no-part : (text read : List ℕ) (n : ℕ) (parts : Parts) → same_bytes read text ≡ false → is_html_part text (leaf (html read) n parts) ≡ false
+no-part : (text read : List ℕ) (n : ℕ) (parts : Parts) → bytes_eq read text ≡ false → is_html_part text (leaf (html read) n parts) ≡ false
 no-part text read n none e = e
 no-part text read n (blank rest) e = refl
 no-part text read n (leaf x lines rest) e = refl
@@ -221,10 +204,10 @@ part-is rules lines text t h is = go h.left refl
         let all : lines ≡ h.used = h.lines_are ∙ ap (λ l. h.used ++ l) e ∙ append-nil h.used in
         let read : t.text ≡ text = h.text ∙ ap ended (sym all) ∙ sym is in
         ap (λ p. is_html_part text (leaf (html t.text) t.lines p)) (ap (parts_of rules) (h.following ∙ ap (map plain_line) e) ∙ no_lines rules)
-        ∙ ap (λ r. same_bytes r text) read ∙ same-refl text
+        ∙ (bytes_eq-Decides t.text text).1 read
     go (line ∷ more) e =
         no-part text t.text t.lines (parts_of rules t.following)
-        (same-false t.text text (λ same. some-more h.used line more (sym h.text ∙ same ∙ is ∙ ap ended (h.lines_are ∙ ap (λ l. h.used ++ l) e))))
+        (false_from_ne_true _ (λ same. some-more h.used line more (sym h.text ∙ (bytes_eq-Decides t.text text).0 same ∙ is ∙ ap ended (h.lines_are ∙ ap (λ l. h.used ++ l) e))))
 
 -- a text of lines that line feeds end has these lines
 
@@ -270,16 +253,16 @@ ended-are-lines (b ∷ bs) clear = go (b == 10) refl (b == 13) refl clear (λ h.
 
 -- and the other way around
 
-ends-behind : (front : List ℕ) (b : ℕ) (bs : List ℕ) → ends_with 10 (front ++ b ∷ bs) ≡ ends_with 10 (b ∷ bs)
+ends-beyond : (front : List ℕ) (b : ℕ) (bs : List ℕ) → ends_with 10 (front ++ b ∷ bs) ≡ ends_with 10 (b ∷ bs)
 unfolding ends_with
-ends-behind [] b bs = refl
-ends-behind (c ∷ []) b bs = refl
-ends-behind (c ∷ d ∷ front) b bs = ends-behind (d ∷ front) b bs
+ends-beyond [] b bs = refl
+ends-beyond (c ∷ []) b bs = refl
+ends-beyond (c ∷ d ∷ front) b bs = ends-beyond (d ∷ front) b bs
 
 ends-whole : (lines : List (List ℕ)) → (is_empty (ended lines) || ends_with 10 (ended lines)) ≡ true
 unfolding ends_with
 ends-whole [] = refl
-ends-whole (line ∷ lines) = ends-some (with_line_feed line ++ ended lines) (ap (ends_with 10) (append_assoc line (10 ∷ []) (ended lines)) ∙ ends-behind line 10 (ended lines) ∙ go (ended lines) (ends-whole lines))
+ends-whole (line ∷ lines) = ends-some (with_line_feed line ++ ended lines) (ap (ends_with 10) (append_assoc line (10 ∷ []) (ended lines)) ∙ ends-beyond line 10 (ended lines) ∙ go (ended lines) (ends-whole lines))
   where
     ends-some : (text : List ℕ) → ends_with 10 text ≡ true → (is_empty text || ends_with 10 text) ≡ true
     ends-some [] h = refl
@@ -320,10 +303,10 @@ unfolding ended_lines
 none-left [] = refl
 none-left (b ∷ bs) = ap is_none_left (some-line b bs).2 ∙ sym (ne_eqb (length (b ∷ bs)) 0 (λ e. omega (arith, e)))
 
-pub fit-first : (kind : HtmlKind) (rest line behind : List ℕ) (told last : Bool) → ended_lines rest ≡ line ∷ ended_lines behind → last ≡ (length behind == 0) → told ≡ fits kind line last
-    → all_fit kind (ended_lines rest) ≡ (told && all_fit kind (ended_lines behind))
-fit-first kind rest line behind told last is e f =
-    ap (all_fit kind) is ∙ ap (λ v. fits kind line v && all_fit kind (ended_lines behind)) (none-left behind ∙ sym e) ∙ ap (λ v. v && all_fit kind (ended_lines behind)) (sym f)
+pub fit-first : (kind : HtmlKind) (rest line beyond : List ℕ) (told last : Bool) → ended_lines rest ≡ line ∷ ended_lines beyond → last ≡ (length beyond == 0) → told ≡ fits kind line last
+    → all_fit kind (ended_lines rest) ≡ (told && all_fit kind (ended_lines beyond))
+fit-first kind rest line beyond told last is e f =
+    ap (all_fit kind) is ∙ ap (λ v. fits kind line v && all_fit kind (ended_lines beyond)) (none-left beyond ∙ sym e) ∙ ap (λ v. v && all_fit kind (ended_lines beyond)) (sym f)
 
 -- the whole
 
@@ -416,7 +399,8 @@ no-html-angle rules bs h = let s = first-lines false 60 [] bs in go (html_start 
         let t = html_lines kind (map plain_line all) in
         let are = ap (list_all is_line) (sym (lines ∙ w.takes.lines_are)) ∙ lines_are_lines (60 ∷ bs) (lines_of (60 ∷ bs)) (lines_are_computed (60 ∷ bs)) in
         let used = (and_parts (list_all is_line w.takes.used) (list_all is_line w.takes.left) (sym (list_all-append is_line w.takes.used w.takes.left) ∙ are)).0 in
-        let differs = same-false t.text (60 ∷ bs) (λ same. let code = ap is_code_text (sym same ∙ w.takes.text) ∙ ended-code w.takes.used used in absurd (cc (code, h))) in
+        let differs : bytes_eq t.text (60 ∷ bs) ≡ false = false_from_ne_true _ (λ e.
+        let code = ap is_code_text (sym ((bytes_eq-Decides t.text (60 ∷ bs)).0 e) ∙ w.takes.text) ∙ ended-code w.takes.used used in absurd (cc (code, h))) in
         let part = ap (λ l. is_html_part (60 ∷ bs) (parts_of rules (map plain_line l))) lines ∙ ap (is_html_part (60 ∷ bs)) (parts-are rules kind f g e) ∙ no-part (60 ∷ bs) t.text t.lines (parts_of rules t.following) differs in
         ap (λ v. v && is_html_ended rules (60 ∷ bs)) part
 

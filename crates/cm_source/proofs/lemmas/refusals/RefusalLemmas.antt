@@ -12,8 +12,9 @@ use Rattle.cm_scan.specs.Words.{is_empty, ◌<|>◌}
 use Rattle.cm_scan.specs.inlines.Links.{Reading}
 use Rattle.cm_scan.specs.spans.RawHtml.{raw_html}
 use Rattle.cm_scan.specs.spans.Autolinks.{Autolink, followed_autolink}
-use Rattle.cm_scan.specs.spans.Angles.{Angled, Addressed, Tagged, before, tagged, at_angle}
+use Rattle.cm_scan.specs.spans.Angles.{Angled, Addressed, Tagged, before, at_angle}
 use Rattle.cm_scan.specs.Scanned.{whole_of}
+use Rattle.cm_scan.specs.steps.SpanSteps.{tagged}
 use Rattle.cm_source.specs.declared.why.Why.{Why}
 use Rattle.cm_source.specs.Answers.{ok_unless}
 use Rattle.cm_source.specs.InlineRefusals.{refused, Face, is_none, first_of, last_of, is_whitespace, is_plain, Judged, first_face, last_face, has_wrong_edge, is_one_tag, judged}

@@ -5,10 +5,11 @@ use Rattle.std.specs.Char.{is_ascii_control, is_ascii_digit}
 use Rattle.std.specs.Fmt.{decimal, digits}
 use Rattle.std.specs.List.{list_all, prefix_len}
 use Rattle.std.specs.Str.Parse.{digits_value}
+use Rattle.std.specs.Int.{is_in_range}
 use Rattle.std.proofs.lemmas.Bool.{and_parts, cond_both, cond-true, eqb-true, false≢true, agree_below, agree_below_at, not-true, or_parts}
 use Rattle.std.proofs.lemmas.Bool.Decides.{nat_tests}
 use lib.Seq.{take_at, drop_at}
-use Rattle.cm_text.specs.Characters.{within, is_ascii_punct}
+use Rattle.cm_text.specs.Characters.{is_ascii_punct}
 use Rattle.cm_text.specs.References.{begins_with, before_semicolon, numbered as read_number, numbered_character, reference}
 use Rattle.cm_text.proofs.lemmas.ReferenceLemmas.{reference-decimal}
 use Rattle.cm_scan.specs.Words.{is_empty}
@@ -61,7 +62,7 @@ spells_text first last (b ∷ bs) = OneByte (spells_edge (first || last && is_em
 -- the digits of a number below 128 are those of a decimal reference to it
 abbrev is_read_back : ℕ → Bool
 is_read_back b =
-    list_all is_ascii_digit (decimal b) && (within 1 7 (length (decimal b)) && (numbered_character (digits_value 10 (decimal b)) == b || b == 0))
+    list_all is_ascii_digit (decimal b) && (is_in_range 1 7 (length (decimal b)) && (numbered_character (digits_value 10 (decimal b)) == b || b == 0))
     && (not (begins_with 120 (decimal b)) && not (begins_with 88 (decimal b)))
 
 all_read_back : agree_below is_read_back (λ b. true) 128 ≡ true
@@ -93,18 +94,18 @@ number_read b cs low some =
     ap (λ t. reference (38 ∷ 35 ∷ t)) (append_assoc (decimal b) (59 ∷ []) cs)
     ∙ reference-decimal (decimal b ++ 59 ∷ cs) (begins_front 120 (decimal b) cs refl no_letter.0) (begins_front 88 (decimal b) cs refl no_letter.1)
     ∙ ap (read_number 10 7 3) (digits_read (decimal b) cs number.0)
-    ∙ cond-true (within 1 7 (length (decimal b))) (Some (numbered_character (digits_value 10 (decimal b)) ∷ [], 3 + length (decimal b))) None value.0
+    ∙ cond-true (is_in_range 1 7 (length (decimal b))) (Some (numbered_character (digits_value 10 (decimal b)) ∷ [], 3 + length (decimal b))) None value.0
     ∙ ap (λ c. Some (c ∷ [], 3 + length (decimal b))) (eqb-true (numbered_character (digits_value 10 (decimal b))) b (either_way _ (b == 0) value.1 some))
     ∙ ap (λ n. Some (b ∷ [], n)) (let long : 3 + length (decimal b) ≡ length (numbered b) = omega (arith, length-append (decimal b) (59 ∷ [])) in long)
   where
     all : is_read_back b ≡ true
     all = agree_below_at is_read_back (λ b. true) 128 b all_read_back low
 
-    number : (list_all is_ascii_digit (decimal b) ≡ true) × ((within 1 7 (length (decimal b)) && (numbered_character (digits_value 10 (decimal b)) == b || b == 0)) ≡ true)
-    number = and_parts _ _ (and_parts (list_all is_ascii_digit (decimal b) && (within 1 7 (length (decimal b)) && (numbered_character (digits_value 10 (decimal b)) == b || b == 0))) _ all).0
+    number : (list_all is_ascii_digit (decimal b) ≡ true) × ((is_in_range 1 7 (length (decimal b)) && (numbered_character (digits_value 10 (decimal b)) == b || b == 0)) ≡ true)
+    number = and_parts _ _ (and_parts (list_all is_ascii_digit (decimal b) && (is_in_range 1 7 (length (decimal b)) && (numbered_character (digits_value 10 (decimal b)) == b || b == 0))) _ all).0
 
-    value : (within 1 7 (length (decimal b)) ≡ true) × ((numbered_character (digits_value 10 (decimal b)) == b || b == 0) ≡ true)
+    value : (is_in_range 1 7 (length (decimal b)) ≡ true) × ((numbered_character (digits_value 10 (decimal b)) == b || b == 0) ≡ true)
     value = and_parts _ _ number.1
 
     no_letter : (not (begins_with 120 (decimal b)) ≡ true) × (not (begins_with 88 (decimal b)) ≡ true)
-    no_letter = and_parts _ _ (and_parts (list_all is_ascii_digit (decimal b) && (within 1 7 (length (decimal b)) && (numbered_character (digits_value 10 (decimal b)) == b || b == 0))) _ all).1
+    no_letter = and_parts _ _ (and_parts (list_all is_ascii_digit (decimal b) && (is_in_range 1 7 (length (decimal b)) && (numbered_character (digits_value 10 (decimal b)) == b || b == 0))) _ all).1

@@ -2,10 +2,10 @@
 use Rattle.std.proofs.Common.{◌≡◌, ℕ, ◌<◌, ◌==◌, ◌&&◌, ◌||◌, not, Bool, true, false, List, [], ◌∷◌, ◌++◌, codes, refl, ap}
 use Rattle.std.specs.Fmt.{decimal, digits}
 use Rattle.std.specs.List.{list_all, list_any}
-use Rattle.std.specs.Char.{is_ascii_control}
+use Rattle.std.specs.Char.{is_ascii_control, is_ascii_digit}
 use Rattle.std.proofs.lemmas.Bool.{and_parts, agree_below_at, or_from}
 use Rattle.cm_text.specs.Characters.{is_ascii_punct}
-use Rattle.cm_scan.specs.Words.{is_digit, is_empty}
+use Rattle.cm_scan.specs.Words.{is_empty}
 use Rattle.cm_source.specs.Texts.{numbered, spelled_byte, spelled_bytes, edge_byte, spelled_text, spelled_title, spelled_target}
 use Rattle.cm_source.proofs.lemmas.shared.ByteSpellings.{SpellsByte, ByNumber, Escaped, AsItIs, no-control, spells_byte, spells_edge}
 use Rattle.cm_scan.proofs.lemmas.texts.ToldApart.{differs, differs'}
@@ -13,9 +13,9 @@ use Rattle.cm_source.proofs.lemmas.shared.AllPass.{all-both, all-so}
 
 -- ---- one byte
 
-pub all-digits : (c : ℕ) → c < 128 → list_all is_digit (decimal c) ≡ true
+pub all-digits : (c : ℕ) → c < 128 → list_all is_ascii_digit (decimal c) ≡ true
 unfolding digits
-all-digits c low = agree_below_at (λ n. list_all is_digit (decimal n)) (λ n. true) 128 c refl low
+all-digits c low = agree_below_at (λ n. list_all is_ascii_digit (decimal n)) (λ n. true) 128 c refl low
 
 -- ---- the bytes of spelled texts
 
@@ -27,12 +27,12 @@ tame : (b : ℕ) → (b == 0) ≡ false → (b == 10) ≡ false → (b == 13) �
 unfolding is_tame
 tame b e f g h = rw (e, f, g, h) refl
 
-digit-tame : (b : ℕ) → is_digit b ≡ true → is_tame b ≡ true
-digit-tame b d = tame b (differs is_digit b 0 d refl) (differs is_digit b 10 d refl) (differs is_digit b 13 d refl) (differs is_digit b 96 d refl)
+digit-tame : (b : ℕ) → is_ascii_digit b ≡ true → is_tame b ≡ true
+digit-tame b d = tame b (differs is_ascii_digit b 0 d refl) (differs is_ascii_digit b 10 d refl) (differs is_ascii_digit b 13 d refl) (differs is_ascii_digit b 96 d refl)
 
 number-tame : (b : ℕ) → b < 128 → list_all is_tame (numbered b) ≡ true
 unfolding is_tame
-number-tame b low = all-both is_tame (decimal b) (59 ∷ []) (all-so is_digit is_tame digit-tame (decimal b) (all-digits b low)) refl
+number-tame b low = all-both is_tame (decimal b) (59 ∷ []) (all-so is_ascii_digit is_tame digit-tame (decimal b) (all-digits b low)) refl
 
 spelling-tame : (b : ℕ) (front : List ℕ) → SpellsByte b front → list_all is_tame front ≡ true
 unfolding is_tame

@@ -6,7 +6,8 @@ use Rattle.cm_scan.specs.Words.{is_empty, after_word}
 use Rattle.cm_scan.specs.spans.Tags.{open_tag, closing_tag}
 use Rattle.cm_scan.specs.spans.RawHtml.{from_to, comment, declaration, html_tag, raw_html}
 use Rattle.cm_scan.specs.spans.Autolinks.{Autolink, followed_autolink}
-use Rattle.cm_scan.specs.spans.Angles.{Angled, Addressed, Tagged, tagged, at_angle}
+use Rattle.cm_scan.specs.spans.Angles.{Angled, Addressed, Tagged, at_angle}
+use Rattle.cm_scan.specs.steps.SpanSteps.{tagged}
 use Rattle.cm_scan.proofs.lemmas.spans.RawHtmlGoesOn.{no-tag}
 use Rattle.cm_scan.proofs.lemmas.spans.RawHtmlEnds.{raw_html-ends}
 use Rattle.cm_source.specs.InlineRefusals.{is_one_tag}

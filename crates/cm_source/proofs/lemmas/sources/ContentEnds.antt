@@ -15,7 +15,6 @@ use Rattle.cm_scan.specs.laws.BlockLaws.{is_unindented}
 use Rattle.cm_source.specs.Inlines.{Spelled, spelled, join, is_line_end}
 use Rattle.cm_source.specs.Texts.{numbered, edge_byte, spelled_byte, spelled_bytes, spelled_title, spelled_text, longest_run, padding, spelled_code, spelled_target}
 use Rattle.cm_source.specs.InlineRefusals.{Face, Place, judged, further_in, first_face, refusal_of_all}
-use Rattle.cm_source.proofs.lemmas.shared.InlineKinds.{text-spelled, code-spelled, html-spelled, emph-spelled, strong-spelled, strike-spelled, link-spelled, image-spelled}
 use Rattle.cm_source.proofs.lemmas.shared.AcceptedLemmas.{or-none, Accepted, text-accepted, html-accepted, soft-accepted, hard-accepted}
 use Rattle.cm_source.proofs.lemmas.shared.InlineInduction.{by-cases}
 use Rattle.cm_source.proofs.lemmas.sources.LineFronts.{ends_number, seen_view, Front, front-line}
@@ -24,6 +23,8 @@ use Rattle.cm_source.proofs.lemmas.shared.OneTag.{tag-begins, tag-ends}
 use Rattle.cm_source.proofs.lemmas.blocks.ContinuationsBack.{bare-front}
 use Rattle.cm_source.proofs.lemmas.shared.ByteSpellings.{SpellsByte, ByNumber, Escaped, AsItIs, no-control, spells_byte}
 use Rattle.cm_scan.proofs.lemmas.texts.ToldApart.{differs, differs'}
+use Rattle.cm_tree.proofs.lemmas.InlineFolds as inline_fold
+use Rattle.cm_source.specs.Inlines as spelling
 
 -- the last byte is neither blank nor an unescaped `#`; the mark says that the first byte is escaped
 unfoldable pub ends_well : (is_escaped : Bool) → List ℕ → Bool
@@ -38,24 +39,24 @@ any-mark true [] e = refl
 any-mark true (b ∷ []) e = ap (λ v. v && true) (and_parts (not (is_space_or_tab b)) (not (b == 35)) e).0
 any-mark true (b ∷ c ∷ cs) e = e
 
-ends-behind : (front : List ℕ) (b : ℕ) (bs : List ℕ) → ends_well false (b ∷ bs) ≡ true → (v : Bool) → ends_well v (front ++ b ∷ bs) ≡ true
+ends-beyond : (front : List ℕ) (b : ℕ) (bs : List ℕ) → ends_well false (b ∷ bs) ≡ true → (v : Bool) → ends_well v (front ++ b ∷ bs) ≡ true
 unfolding ends_well
-ends-behind [] b bs e v = any-mark v (b ∷ bs) e
-ends-behind (c ∷ []) b bs e v = any-mark (c == 92) (b ∷ bs) e
-ends-behind (c ∷ d ∷ ds) b bs e v = ends-behind (d ∷ ds) b bs e (c == 92)
+ends-beyond [] b bs e v = any-mark v (b ∷ bs) e
+ends-beyond (c ∷ []) b bs e v = any-mark (c == 92) (b ∷ bs) e
+ends-beyond (c ∷ d ∷ ds) b bs e v = ends-beyond (d ∷ ds) b bs e (c == 92)
 
 -- a text that isn't empty and ends well
 pub record EndsWell (text : List ℕ) : Type 0 where
   pub some : is_empty text ≡ false
   pub well : ends_well false text ≡ true
 
-some-behind : (front rest : List ℕ) → is_empty rest ≡ false → is_empty (front ++ rest) ≡ false
-some-behind [] rest e = e
-some-behind (b ∷ bs) rest e = refl
+some-beyond : (front rest : List ℕ) → is_empty rest ≡ false → is_empty (front ++ rest) ≡ false
+some-beyond [] rest e = e
+some-beyond (b ∷ bs) rest e = refl
 
-behind : (front rest : List ℕ) → EndsWell rest → EndsWell (front ++ rest)
-behind front [] e = absurd (cc e.some)
-behind front (b ∷ bs) e = record { some = some-behind front (b ∷ bs) refl; well = ends-behind front b bs e.well false }
+beyond : (front rest : List ℕ) → EndsWell rest → EndsWell (front ++ rest)
+beyond front [] e = absurd (cc e.some)
+beyond front (b ∷ bs) e = record { some = some-beyond front (b ∷ bs) refl; well = ends-beyond front b bs e.well false }
 
 -- ---- what that means
 
@@ -67,7 +68,7 @@ trimmed-end v (b ∷ []) e = go (is_space_or_tab b) (and_parts (not (is_space_or
     go : (w : Bool) → not w ≡ true → (if w then [] else b ∷ []) ≡ b ∷ []
     go false k = refl
     go true k = absurd (cc k)
-trimmed-end v (b ∷ c ∷ cs) e = ap (keep_byte true b) (trimmed-end (b == 92) (c ∷ cs) e)
+trimmed-end v (b ∷ c ∷ cs) e = ap (keep_byte is_space_or_tab b) (trimmed-end (b == 92) (c ∷ cs) e)
 
 no-hashes : (text : List ℕ) → is_empty text ≡ false → ends_well false text ≡ true → list_all (λ c. c == 35) text ≡ false
 unfolding ends_well
@@ -120,7 +121,7 @@ trimmed-start (b ∷ bs) e = go (is_space_or_tab b) e
 
 spelling-ends-well : (b : ℕ) (front : List ℕ) → SpellsByte b front → (b == 32) ≡ false → EndsWell front
 unfolding ends_well
-spelling-ends-well b front (ByNumber low) space = behind (codes "&#" ++ decimal b) (codes ";") (record { some = refl; well = refl })
+spelling-ends-well b front (ByNumber low) space = beyond (codes "&#" ++ decimal b) (codes ";") (record { some = refl; well = refl })
 spelling-ends-well b front (Escaped punct tick) space = record { some = refl; well = ap (λ v. not v && true) (blank b punct) }
   where
     blank : (c : ℕ) → is_ascii_punct c ≡ true → is_space_or_tab c ≡ false
@@ -135,19 +136,19 @@ unfolding ends_well
 last-well b = go (b == 32) refl
   where
     go : (v : Bool) → (b == 32) ≡ v → EndsWell (if v then numbered 32 else spelled_byte b)
-    go true p = behind (codes "&#" ++ decimal 32) (codes ";") (record { some = refl; well = refl })
+    go true p = beyond (codes "&#" ++ decimal 32) (codes ";") (record { some = refl; well = refl })
     go false p = spelling-ends-well b (spelled_byte b) (spells_byte b) p
 
 pub text-well : (first : Bool) (text : List ℕ) → is_empty text ≡ false → EndsWell (spelled_text first true text)
 unfolding spelled_text
 text-well first [] some = absurd (cc some)
 text-well first (b ∷ []) some = subst EndsWell (sym (append-nil (edge_byte (first || true) b)) ∙ refl) (subst (λ v. EndsWell (edge_byte v b)) (sym (or_right first true refl)) (last-well b))
-text-well first (b ∷ c ∷ cs) some = behind (edge_byte (first || false) b) (spelled_text false true (c ∷ cs)) (text-well false (c ∷ cs) refl)
+text-well first (b ∷ c ∷ cs) some = beyond (edge_byte (first || false) b) (spelled_text false true (c ∷ cs)) (text-well false (c ∷ cs) refl)
 
 ticks-well : (n : ℕ) → EndsWell (replicate (suc n) 96)
 unfolding ends_well
 ticks-well zero = record { some = refl; well = refl }
-ticks-well (suc n) = behind (96 ∷ []) (replicate (suc n) 96) (ticks-well n)
+ticks-well (suc n) = beyond (96 ∷ []) (replicate (suc n) 96) (ticks-well n)
 
 module _ (rules : Rules) where
   abbrev LastEnds : Inline → Type 0
@@ -159,21 +160,21 @@ module _ (rules : Rules) where
   last-ends : (i : Inline) → LastEnds i
   unfolding spelled_code spelled_target ends_well
   last-ends = by-cases LastEnds (record {
-    text = λ text place before e first. told (Text text) _ (text-spelled text) first (text-well first text (text-accepted rules place before None text e).nonempty);
-    code = λ text place before e first. told (Code text) _ (code-spelled text) first
-        (behind (replicate (suc (longest_run 0 text)) 96 ++ padding text ++ text ++ padding text) (replicate (suc (longest_run 0 text)) 96) (ticks-well (longest_run 0 text)));
+    text = λ text place before e first. told (Text text) _ (inline_fold.text spelling.inline_step text) first (text-well first text (text-accepted rules place before None text e).nonempty);
+    code = λ text place before e first. told (Code text) _ (inline_fold.code spelling.inline_step text) first
+        (beyond (replicate (suc (longest_run 0 text)) 96 ++ padding text ++ text ++ padding text) (replicate (suc (longest_run 0 text)) 96) (ticks-well (longest_run 0 text)));
     html = λ text place before e first.
         let tag = tag-ends rules text (html-accepted rules place before None text e).one_tag in
-        told (Html text) _ (html-spelled text) first (subst EndsWell (sym tag.1) (behind tag.0 (62 ∷ []) (record { some = refl; well = refl })));
+        told (Html text) _ (inline_fold.html spelling.inline_step text) first (subst EndsWell (sym tag.1) (beyond tag.0 (62 ∷ []) (record { some = refl; well = refl })));
     soft = λ place before e first. absurd (cc (soft-accepted rules place before None e).in_front);
     hard = λ place before e first. absurd (cc (hard-accepted rules place before None e).in_front);
-    emph = λ is all place before e first. told (Emph is) _ (emph-spelled is) first (behind (codes "*" ++ join false false (map spelled is)) (codes "*") (record { some = refl; well = refl }));
-    strong = λ is all place before e first. told (Strong is) _ (strong-spelled is) first (behind (codes "**" ++ join false false (map spelled is)) (codes "**") (record { some = refl; well = refl }));
-    strike = λ is all place before e first. told (Strike is) _ (strike-spelled is) first (behind (codes "~~" ++ join false false (map spelled is)) (codes "~~") (record { some = refl; well = refl }));
-    link = λ dest title is all place before e first. told (Link dest title is) _ (link-spelled dest title is) first
-        (behind (codes "[" ++ join false false (map spelled is)) (spelled_target dest title) (behind (codes "](<" ++ spelled_bytes dest ++ codes ">" ++ spelled_title title) (codes ")") (record { some = refl; well = refl })));
-    image = λ dest title is all place before e first. told (Image dest title is) _ (image-spelled dest title is) first
-        (behind (codes "![" ++ join false false (map spelled is)) (spelled_target dest title) (behind (codes "](<" ++ spelled_bytes dest ++ codes ">" ++ spelled_title title) (codes ")") (record { some = refl; well = refl })));
+    emph = λ is all place before e first. told (Emph is) _ (inline_fold.emph spelling.inline_step is) first (beyond (codes "*" ++ join false false (map spelled is)) (codes "*") (record { some = refl; well = refl }));
+    strong = λ is all place before e first. told (Strong is) _ (inline_fold.strong spelling.inline_step is) first (beyond (codes "**" ++ join false false (map spelled is)) (codes "**") (record { some = refl; well = refl }));
+    strike = λ is all place before e first. told (Strike is) _ (inline_fold.strike spelling.inline_step is) first (beyond (codes "~~" ++ join false false (map spelled is)) (codes "~~") (record { some = refl; well = refl }));
+    link = λ dest title is all place before e first. told (Link dest title is) _ (inline_fold.link spelling.inline_step dest title is) first
+        (beyond (codes "[" ++ join false false (map spelled is)) (spelled_target dest title) (beyond (codes "](<" ++ spelled_bytes dest ++ codes ">" ++ spelled_title title) (codes ")") (record { some = refl; well = refl })));
+    image = λ dest title is all place before e first. told (Image dest title is) _ (inline_fold.image spelling.inline_step dest title is) first
+        (beyond (codes "![" ++ join false false (map spelled is)) (spelled_target dest title) (beyond (codes "](<" ++ spelled_bytes dest ++ codes ">" ++ spelled_title title) (codes ")") (record { some = refl; well = refl })));
   })
 
   pub content-ends : (i : Inline) (is : List Inline) (place : Place) (before : Option Face) → refusal_of_all place before (map (judged rules) (i ∷ is)) ≡ None
@@ -182,7 +183,7 @@ module _ (rules : Rules) where
       subst EndsWell (sym (append-nil ((spelled i).spelling first true))) (last-ends i place before (or-none ((judged rules i).refusal place before None) None e).0 first)
   content-ends i (j ∷ js) place before e first =
       let parts = or-none ((judged rules i).refusal place before (Some (judged rules j).face)) (refusal_of_all (further_in place) (Some (judged rules i).face) (map (judged rules) (j ∷ js))) e in
-      behind ((spelled i).spelling first (is_line_end true (map spelled (j ∷ js)))) (join (spelled i).begins_line true (map spelled (j ∷ js)))
+      beyond ((spelled i).spelling first (is_line_end true (map spelled (j ∷ js)))) (join (spelled i).begins_line true (map spelled (j ∷ js)))
       (content-ends j js (further_in place) (Some (judged rules i).face) parts.1 (spelled i).begins_line)
 
   -- ---- the front of a heading's content
@@ -212,18 +213,18 @@ module _ (rules : Rules) where
   begins-bare : (i : Inline) → BeginsBare i
   unfolding spelled_code
   begins-bare = by-cases BeginsBare (record {
-    text = λ text place after e last. bare-told (Text text) _ (text-spelled text) last (text-bare last text (text-accepted rules place None after text e).nonempty);
-    code = λ text place after e last. bare-told (Code text) _ (code-spelled text) last refl;
+    text = λ text place after e last. bare-told (Text text) _ (inline_fold.text spelling.inline_step text) last (text-bare last text (text-accepted rules place None after text e).nonempty);
+    code = λ text place after e last. bare-told (Code text) _ (inline_fold.code spelling.inline_step text) last refl;
     html = λ text place after e last.
         let tag = tag-begins rules text (html-accepted rules place None after text e).one_tag in
-        bare-told (Html text) _ (html-spelled text) last (ap is_unindented tag.1);
-    soft = λ place after e last. absurd (cc (soft-accepted rules place None after e).behind);
-    hard = λ place after e last. absurd (cc (hard-accepted rules place None after e).behind);
-    emph = λ is all place after e last. bare-told (Emph is) _ (emph-spelled is) last refl;
-    strong = λ is all place after e last. bare-told (Strong is) _ (strong-spelled is) last refl;
-    strike = λ is all place after e last. bare-told (Strike is) _ (strike-spelled is) last refl;
-    link = λ dest title is all place after e last. bare-told (Link dest title is) _ (link-spelled dest title is) last refl;
-    image = λ dest title is all place after e last. bare-told (Image dest title is) _ (image-spelled dest title is) last refl;
+        bare-told (Html text) _ (inline_fold.html spelling.inline_step text) last (ap is_unindented tag.1);
+    soft = λ place after e last. absurd (cc (soft-accepted rules place None after e).beyond);
+    hard = λ place after e last. absurd (cc (hard-accepted rules place None after e).beyond);
+    emph = λ is all place after e last. bare-told (Emph is) _ (inline_fold.emph spelling.inline_step is) last refl;
+    strong = λ is all place after e last. bare-told (Strong is) _ (inline_fold.strong spelling.inline_step is) last refl;
+    strike = λ is all place after e last. bare-told (Strike is) _ (inline_fold.strike spelling.inline_step is) last refl;
+    link = λ dest title is all place after e last. bare-told (Link dest title is) _ (inline_fold.link spelling.inline_step dest title is) last refl;
+    image = λ dest title is all place after e last. bare-told (Image dest title is) _ (inline_fold.image spelling.inline_step dest title is) last refl;
   })
 
   pub content-bare : (i : Inline) (is : List Inline) (place : Place) → refusal_of_all place None (map (judged rules) (i ∷ is)) ≡ None

@@ -3,19 +3,18 @@ use Rattle.std.proofs.Common.{◌≡◌, ℕ, suc, ◌==◌, ◌&&◌, ◌||◌,
 use Rattle.std.specs.Prelude.{if◌then◌else◌}
 use Rattle.std.specs.Str.{chars}
 use Rattle.std.specs.List.{list_all, list_any}
-use Rattle.std.specs.Char.{is_ascii_control}
+use Rattle.std.specs.Char.{is_ascii_control, is_ascii_digit}
 use Rattle.std.proofs.lemmas.Bool.{or_parts, or_right, and_parts, eqb-true, not-true}
 use Rattle.cm_text.specs.Rules.{Rules}
 use Rattle.cm_text.specs.Characters.{is_ascii_punct}
 use Rattle.cm_text.proofs.lemmas.Computing.{character_kinds}
 use Rattle.cm_tree.specs.declared.tree.Inline.{Inline}
 use Rattle.cm_tree.specs.declared.tree.Inline.TheVariants.{Text, Code, Html, Soft, Hard, Emph, Strong, Strike, Link, Image}
-use Rattle.cm_scan.specs.Words.{is_digit, is_empty, begins_with}
+use Rattle.cm_scan.specs.Words.{is_empty, begins_with}
 use Rattle.cm_scan.specs.spans.Autolinks.{ends_with}
 use Rattle.cm_source.specs.Inlines.{Spelled, spelled, join, is_line_end, between}
 use Rattle.cm_source.specs.Texts.{numbered, edge_byte, spelled_byte, spelled_text, longest_run, is_padded, padding, spelled_code, spelled_target}
 use Rattle.cm_source.specs.InlineRefusals.{Face, Place, Judged, judged, further_in, inside_link, first_face, refusal_of_all, has_wrong_edge, is_text, is_break, is_none, is_whitespace, is_plain, first_of, last_of, last_face, hold_emphasis}
-use Rattle.cm_source.proofs.lemmas.shared.InlineKinds.{text-judged, code-judged, html-judged, soft-judged, hard-judged, emph-judged, strong-judged, strike-judged, link-judged, image-judged, text-spelled, code-spelled, html-spelled, soft-spelled, hard-spelled, emph-spelled, strong-spelled, strike-spelled, link-spelled, image-spelled}
 use Rattle.cm_source.proofs.lemmas.shared.AcceptedLemmas.{or-none, Accepted, text-accepted, code-accepted, html-accepted, soft-accepted, hard-accepted, EmphasisAccepted, emph-accepted, strong-accepted, strike-accepted, link-accepted, image-accepted}
 use Rattle.cm_source.proofs.lemmas.shared.InlineInduction.{AllHold, Cases, by-cases, all-by-cases}
 use Rattle.cm_source.proofs.lemmas.sources.KeptBytes.{is_line_byte, one-line, padding-line, text-is-line, code-is-line, target-is-line}
@@ -25,6 +24,9 @@ use Rattle.cm_source.proofs.lemmas.shared.OneTag.{tag-begins}
 use Rattle.cm_source.proofs.lemmas.shared.ByteSpellings.{SpellsByte, ByNumber, Escaped, AsItIs, no-control, spells_byte, spells_edge}
 use Rattle.cm_scan.proofs.lemmas.texts.ToldApart.{differs', none-passes}
 use Rattle.cm_source.proofs.lemmas.shared.AllPass.{all-both}
+use Rattle.cm_tree.proofs.lemmas.InlineFolds as inline_fold
+use Rattle.cm_source.specs.Inlines as spelling
+use Rattle.cm_source.specs.InlineRefusals as refusals
 
 -- ---- quiet and inner bytes
 
@@ -62,9 +64,9 @@ spelling-ends : (b : ℕ) (front : List ℕ) → SpellsByte b front → (rest : 
 unfolding ends_number
 spelling-ends b front (ByNumber low) rest e = refl
 spelling-ends b front (Escaped punct tick) rest e = refl
-spelling-ends b front (AsItIs printed punct) rest e = go (is_digit b) refl
+spelling-ends b front (AsItIs printed punct) rest e = go (is_ascii_digit b) refl
   where
-    go : (v : Bool) → is_digit b ≡ v → ends_number (b ∷ rest) ≡ true
+    go : (v : Bool) → is_ascii_digit b ≡ v → ends_number (b ∷ rest) ≡ true
     go true d = ends-digit b rest d ∙ e
     go false d = ends-other b rest d
         ∙ ap (λ v. not v && not (b == 41)) (differs' is_ascii_punct b 46 punct refl) ∙ ap not (differs' is_ascii_punct b 41 punct refl)
@@ -81,9 +83,9 @@ spelling-front : (b : ℕ) (front : List ℕ) → SpellsByte b front → (b == 3
 unfolding is_quiet
 spelling-front b front (ByNumber low) space rest e = quiet 38 _ refl refl
 spelling-front b front (Escaped punct tick) space rest e = quiet 92 _ refl refl
-spelling-front b front (AsItIs printed punct) space rest e = go (is_digit b) refl
+spelling-front b front (AsItIs printed punct) space rest e = go (is_ascii_digit b) refl
   where
-    go : (v : Bool) → is_digit b ≡ v → Front (b ∷ rest)
+    go : (v : Bool) → is_ascii_digit b ≡ v → Front (b ∷ rest)
     go true d = number b rest d (ends-digit b rest d ∙ e)
     go false d = quiet b rest (quiet-itself b (unmarked b punct (no-control b printed) space)) d
 
@@ -162,10 +164,10 @@ code-front text some e more =
     let s = inside-begins text some in
     let line = all-both is_line_byte (padding text ++ text) (padding text) (all-both is_line_byte (padding text) text (padding-line text) e) (padding-line text) in
     let shape : spelled_code text ++ more ≡ marks ++ (inside ++ (marks ++ more)) = simp append_assoc in
-    let behind : inside ++ (marks ++ more) ≡ s.byte ∷ (s.rest ++ (marks ++ more)) = ap (λ t. t ++ (marks ++ more)) s.is in
-    subst Front (sym (shape ∙ ap (λ t. marks ++ t) behind))
+    let beyond : inside ++ (marks ++ more) ≡ s.byte ∷ (s.rest ++ (marks ++ more)) = ap (λ t. t ++ (marks ++ more)) s.is in
+    subst Front (sym (shape ∙ ap (λ t. marks ++ t) beyond))
     (backticks n s.byte (s.rest ++ (marks ++ more)) s.no_backtick (line-byte s.byte s.rest (sym (ap (list_all is_line_byte) s.is) ∙ line)).0
-    (sym (ap (λ t. list_any (λ c. c == 96) (seen_view t)) behind) ∙ line-has inside (replicate n 96 ++ more) line))
+    (sym (ap (λ t. list_any (λ c. c == 96) (seen_view t)) beyond) ∙ line-has inside (replicate n 96 ++ more) line))
 
 -- ---- lines
 
@@ -199,16 +201,16 @@ module _ (rules : Rules) where
 
   same-break : (i : Inline) → SameBreak i
   same-break = by-cases SameBreak (record {
-    text = λ text. rw (text-spelled text, text-judged rules text) refl;
-    code = λ text. rw (code-spelled text, code-judged rules text) refl;
-    html = λ text. rw (html-spelled text, html-judged rules text) refl;
-    soft = rw (soft-spelled, soft-judged rules) refl;
-    hard = rw (hard-spelled, hard-judged rules) refl;
-    emph = λ is all. rw (emph-spelled is, emph-judged rules is) refl;
-    strong = λ is all. rw (strong-spelled is, strong-judged rules is) refl;
-    strike = λ is all. rw (strike-spelled is, strike-judged rules is) refl;
-    link = λ dest title is all. rw (link-spelled dest title is, link-judged rules dest title is) refl;
-    image = λ dest title is all. rw (image-spelled dest title is, image-judged rules dest title is) refl;
+    text = λ text. rw (inline_fold.text spelling.inline_step text, inline_fold.text (refusals.inline_step rules) text) refl;
+    code = λ text. rw (inline_fold.code spelling.inline_step text, inline_fold.code (refusals.inline_step rules) text) refl;
+    html = λ text. rw (inline_fold.html spelling.inline_step text, inline_fold.html (refusals.inline_step rules) text) refl;
+    soft = rw (inline_fold.soft spelling.inline_step, (inline_fold.soft (refusals.inline_step rules))) refl;
+    hard = rw (inline_fold.hard spelling.inline_step, (inline_fold.hard (refusals.inline_step rules))) refl;
+    emph = λ is all. rw (inline_fold.emph spelling.inline_step is, inline_fold.emph (refusals.inline_step rules) is) refl;
+    strong = λ is all. rw (inline_fold.strong spelling.inline_step is, inline_fold.strong (refusals.inline_step rules) is) refl;
+    strike = λ is all. rw (inline_fold.strike spelling.inline_step is, inline_fold.strike (refusals.inline_step rules) is) refl;
+    link = λ dest title is all. rw (inline_fold.link spelling.inline_step dest title is, inline_fold.link (refusals.inline_step rules) dest title is) refl;
+    image = λ dest title is all. rw (inline_fold.image spelling.inline_step dest title is, inline_fold.image (refusals.inline_step rules) dest title is) refl;
   })
 
   -- a break isn't the last inline of a content
@@ -217,16 +219,16 @@ module _ (rules : Rules) where
 
   not-last : (i : Inline) → NotLast i
   not-last = by-cases NotLast (record {
-    text = λ text place before e. ap (λ (j : Judged). is_break (Some j.face)) (text-judged rules text);
-    code = λ text place before e. ap (λ (j : Judged). is_break (Some j.face)) (code-judged rules text);
-    html = λ text place before e. ap (λ (j : Judged). is_break (Some j.face)) (html-judged rules text);
+    text = λ text place before e. ap (λ (j : Judged). is_break (Some j.face)) (inline_fold.text (refusals.inline_step rules) text);
+    code = λ text place before e. ap (λ (j : Judged). is_break (Some j.face)) (inline_fold.code (refusals.inline_step rules) text);
+    html = λ text place before e. ap (λ (j : Judged). is_break (Some j.face)) (inline_fold.html (refusals.inline_step rules) text);
     soft = λ place before e. absurd (cc (soft-accepted rules place before None e).in_front);
     hard = λ place before e. absurd (cc (hard-accepted rules place before None e).in_front);
-    emph = λ is all place before e. ap (λ (j : Judged). is_break (Some j.face)) (emph-judged rules is);
-    strong = λ is all place before e. ap (λ (j : Judged). is_break (Some j.face)) (strong-judged rules is);
-    strike = λ is all place before e. ap (λ (j : Judged). is_break (Some j.face)) (strike-judged rules is);
-    link = λ dest title is all place before e. ap (λ (j : Judged). is_break (Some j.face)) (link-judged rules dest title is);
-    image = λ dest title is all place before e. ap (λ (j : Judged). is_break (Some j.face)) (image-judged rules dest title is);
+    emph = λ is all place before e. ap (λ (j : Judged). is_break (Some j.face)) (inline_fold.emph (refusals.inline_step rules) is);
+    strong = λ is all place before e. ap (λ (j : Judged). is_break (Some j.face)) (inline_fold.strong (refusals.inline_step rules) is);
+    strike = λ is all place before e. ap (λ (j : Judged). is_break (Some j.face)) (inline_fold.strike (refusals.inline_step rules) is);
+    link = λ dest title is all place before e. ap (λ (j : Judged). is_break (Some j.face)) (inline_fold.link (refusals.inline_step rules) dest title is);
+    image = λ dest title is all place before e. ap (λ (j : Judged). is_break (Some j.face)) (inline_fold.image (refusals.inline_step rules) dest title is);
   })
 
   -- no digit, no `.` and no `)` follows a text
@@ -242,17 +244,17 @@ module _ (rules : Rules) where
   unfolding ends_number spelled_code
   number-ends = by-cases EndsNumber (record {
     text = λ text place before after e is first last more. absurd (cc (sym (text-accepted rules place before after text e).apart ∙ is));
-    code = λ text place before after e is first last more. ends-told (Code text) _ (code-spelled text) first last more refl;
+    code = λ text place before after e is first last more. ends-told (Code text) _ (inline_fold.code spelling.inline_step text) first last more refl;
     html = λ text place before after e is first last more.
         let tag = tag-begins rules text (html-accepted rules place before after text e).one_tag in
-        ends-told (Html text) _ (html-spelled text) first last more (ap (λ t. ends_number (t ++ more)) tag.1);
-    soft = λ place before after e is first last more. ends-told Soft _ soft-spelled first last more refl;
-    hard = λ place before after e is first last more. ends-told Hard _ hard-spelled first last more refl;
-    emph = λ is all place before after e text first last more. ends-told (Emph is) _ (emph-spelled is) first last more refl;
-    strong = λ is all place before after e text first last more. ends-told (Strong is) _ (strong-spelled is) first last more refl;
-    strike = λ is all place before after e text first last more. ends-told (Strike is) _ (strike-spelled is) first last more refl;
-    link = λ dest title is all place before after e text first last more. ends-told (Link dest title is) _ (link-spelled dest title is) first last more refl;
-    image = λ dest title is all place before after e text first last more. ends-told (Image dest title is) _ (image-spelled dest title is) first last more refl;
+        ends-told (Html text) _ (inline_fold.html spelling.inline_step text) first last more (ap (λ t. ends_number (t ++ more)) tag.1);
+    soft = λ place before after e is first last more. ends-told Soft _ (inline_fold.soft spelling.inline_step) first last more refl;
+    hard = λ place before after e is first last more. ends-told Hard _ (inline_fold.hard spelling.inline_step) first last more refl;
+    emph = λ is all place before after e text first last more. ends-told (Emph is) _ (inline_fold.emph spelling.inline_step is) first last more refl;
+    strong = λ is all place before after e text first last more. ends-told (Strong is) _ (inline_fold.strong spelling.inline_step is) first last more refl;
+    strike = λ is all place before after e text first last more. ends-told (Strike is) _ (inline_fold.strike spelling.inline_step is) first last more refl;
+    link = λ dest title is all place before after e text first last more. ends-told (Link dest title is) _ (inline_fold.link spelling.inline_step dest title is) first last more refl;
+    image = λ dest title is all place before after e text first last more. ends-told (Image dest title is) _ (inline_fold.image spelling.inline_step dest title is) first last more refl;
   })
 
   -- ---- the first inline of emphasis
@@ -266,8 +268,8 @@ module _ (rules : Rules) where
 
   space-first : (bs : List ℕ) → is_whitespace (first_of (Some (judged rules (Text (32 ∷ bs))).face)) ≡ true
   unfolding chars character_kinds
-  space-first [] = ap (λ (j : Judged). is_whitespace (first_of (Some j.face))) (text-judged rules (32 ∷ []))
-  space-first (c ∷ cs) = ap (λ (j : Judged). is_whitespace (first_of (Some j.face))) (text-judged rules (32 ∷ c ∷ cs))
+  space-first [] = ap (λ (j : Judged). is_whitespace (first_of (Some j.face))) (inline_fold.text (refusals.inline_step rules) (32 ∷ []))
+  space-first (c ∷ cs) = ap (λ (j : Judged). is_whitespace (first_of (Some j.face))) (inline_fold.text (refusals.inline_step rules) (32 ∷ c ∷ cs))
 
   first-inner : (last : Bool) (text : List ℕ) → is_empty text ≡ false → is_whitespace (first_of (Some (judged rules (Text text)).face)) ≡ false → StartsInner (spelled_text false last text)
   first-inner last [] some space = absurd (cc some)
@@ -282,19 +284,19 @@ module _ (rules : Rules) where
   unfolding spelled_code is_inner
   begins-inner = by-cases BeginsInner (record {
     text = λ text place after e flat space last.
-        inner-told (Text text) _ (text-spelled text) last (first-inner last text (text-accepted rules place None after text e).nonempty space);
-    code = λ text place after e flat space last. inner-told (Code text) _ (code-spelled text) last (starts-with 96 _ refl);
+        inner-told (Text text) _ (inline_fold.text spelling.inline_step text) last (first-inner last text (text-accepted rules place None after text e).nonempty space);
+    code = λ text place after e flat space last. inner-told (Code text) _ (inline_fold.code spelling.inline_step text) last (starts-with 96 _ refl);
     html = λ text place after e flat space last.
         let tag = tag-begins rules text (html-accepted rules place None after text e).one_tag in
-        inner-told (Html text) _ (html-spelled text) last (subst StartsInner (sym tag.1) (starts-with 60 tag.0 refl));
-    soft = λ place after e flat space last. absurd (cc (soft-accepted rules place None after e).behind);
-    hard = λ place after e flat space last. absurd (cc (hard-accepted rules place None after e).behind);
-    emph = λ is all place after e flat space last. absurd (cc (sym (ap (λ (j : Judged). j.has_emphasis) (emph-judged rules is)) ∙ flat));
-    strong = λ is all place after e flat space last. absurd (cc (sym (ap (λ (j : Judged). j.has_emphasis) (strong-judged rules is)) ∙ flat));
-    strike = λ is all place after e flat space last. absurd (cc (sym (ap (λ (j : Judged). j.has_emphasis) (strike-judged rules is)) ∙ flat));
-    link = λ dest title is all place after e flat space last. inner-told (Link dest title is) _ (link-spelled dest title is) last
+        inner-told (Html text) _ (inline_fold.html spelling.inline_step text) last (subst StartsInner (sym tag.1) (starts-with 60 tag.0 refl));
+    soft = λ place after e flat space last. absurd (cc (soft-accepted rules place None after e).beyond);
+    hard = λ place after e flat space last. absurd (cc (hard-accepted rules place None after e).beyond);
+    emph = λ is all place after e flat space last. absurd (cc (sym (ap (λ (j : Judged). j.has_emphasis) (inline_fold.emph (refusals.inline_step rules) is)) ∙ flat));
+    strong = λ is all place after e flat space last. absurd (cc (sym (ap (λ (j : Judged). j.has_emphasis) (inline_fold.strong (refusals.inline_step rules) is)) ∙ flat));
+    strike = λ is all place after e flat space last. absurd (cc (sym (ap (λ (j : Judged). j.has_emphasis) (inline_fold.strike (refusals.inline_step rules) is)) ∙ flat));
+    link = λ dest title is all place after e flat space last. inner-told (Link dest title is) _ (inline_fold.link spelling.inline_step dest title is) last
         (starts-with 91 _ refl);
-    image = λ dest title is all place after e flat space last. inner-told (Image dest title is) _ (image-spelled dest title is) last
+    image = λ dest title is all place after e flat space last. inner-told (Image dest title is) _ (inline_fold.image spelling.inline_step dest title is) last
         (starts-with 33 _ refl);
   })
 
@@ -344,12 +346,12 @@ module _ (rules : Rules) where
       let next = or-none ((judged rules j).refusal (further_in place) face (first_face (map (judged rules) js))) _ parts.1 in
       let line_end = is_line_end last (map spelled (j ∷ js)) in
       let further = join (spelled i).begins_line last (map spelled (j ∷ js)) in
-      let behind = join (spelled j).begins_line last (map spelled js) in
+      let beyond = join (spelled j).begins_line last (map spelled js) in
       let next_end = is_line_end last (map spelled js) in
       subst (LinesBegin first) (sym (append_assoc ((spelled i).spelling first line_end) further more))
       (here place before (Some (judged rules j).face) parts.0 first line_end front (further ++ more)
-      (λ is. ap ends_number (append_assoc ((spelled j).spelling (spelled i).begins_line next_end) behind more)
-      ∙ number-ends j (further_in place) face (first_face (map (judged rules) js)) next.0 is (spelled i).begins_line next_end (behind ++ more))
+      (λ is. ap ends_number (append_assoc ((spelled j).spelling (spelled i).begins_line next_end) beyond more)
+      ∙ number-ends j (further_in place) face (first_face (map (judged rules) js)) next.0 is (spelled i).begins_line next_end (beyond ++ more))
       (content-fronts j js all.0 all.1 (further_in place) face parts.1 (spelled i).begins_line last (λ b. inr (sym (same-break i) ∙ b)) more ends begin))
 
   -- stars, tildes or a bracket around a content
@@ -405,37 +407,37 @@ module _ (rules : Rules) where
   fronts : Cases Fronts
   unfolding ends_number is_line_byte LinesBegin spelled_target spelled_code is_quiet
   fronts = record {
-    text = λ text place before after e first last front more ends begin. front-told (Text text) _ (text-spelled text) first last more begin
-        (text-begins first last text more (text-accepted rules place before after text e).nonempty (ends (ap (λ (j : Judged). is_text (Some j.face)) (text-judged rules text))));
+    text = λ text place before after e first last front more ends begin. front-told (Text text) _ (inline_fold.text spelling.inline_step text) first last more begin
+        (text-begins first last text more (text-accepted rules place before after text e).nonempty (ends (ap (λ (j : Judged). is_text (Some j.face)) (inline_fold.text (refusals.inline_step rules) text))));
     code = λ text place before after e first last front more ends begin.
         let a = code-accepted rules place before after text e in
         let line = one-line text a.no_nul a.one_line in
-        front-told (Code text) _ (code-spelled text) first last more begin
+        front-told (Code text) _ (inline_fold.code spelling.inline_step text) first last more begin
         (begin-with first (spelled_code text) more refl (code-is-line text line) (λ is. code-front text a.nonempty line more));
     html = λ text place before after e first last front more ends begin.
         let a = html-accepted rules place before after text e in
         let inside = not-first place before (λ opens none. cc (opens, a.not_first)) a.no_break first front in
-        front-told (Html text) _ (html-spelled text) first last more begin
+        front-told (Html text) _ (inline_fold.html spelling.inline_step text) first last more begin
         (λ rest. subst (λ v. LinesBegin v (text ++ more)) (sym inside) (lines-inside text more (one-line text a.no_nul a.one_line) rest));
     soft = λ place before after e first last front more ends begin.
         let a = soft-accepted rules place before after e in
-        let inside = not-first place before (λ opens none. cc (ap is_none none, a.behind)) a.apart first front in
-        front-told Soft _ soft-spelled first last more begin (λ rest. subst (λ v. LinesBegin v (10 ∷ more)) (sym inside) ((λ (h : false ≡ true). absurd (cc h)), rest));
+        let inside = not-first place before (λ opens none. cc (ap is_none none, a.beyond)) a.apart first front in
+        front-told Soft _ (inline_fold.soft spelling.inline_step) first last more begin (λ rest. subst (λ v. LinesBegin v (10 ∷ more)) (sym inside) ((λ (h : false ≡ true). absurd (cc h)), rest));
     hard = λ place before after e first last front more ends begin.
         let a = hard-accepted rules place before after e in
-        let inside = not-first place before (λ opens none. cc (ap is_none none, a.behind)) a.apart first front in
-        front-told Hard _ hard-spelled first last more begin
+        let inside = not-first place before (λ opens none. cc (ap is_none none, a.beyond)) a.apart first front in
+        front-told Hard _ (inline_fold.hard spelling.inline_step) first last more begin
         (λ rest. subst (λ v. LinesBegin v (92 ∷ 10 ∷ more)) (sym inside) ((λ (h : false ≡ true). absurd (cc h)), ((λ (h : false ≡ true). absurd (cc h)), rest)));
-    emph = λ is all place before after e first last front more ends begin. front-told (Emph is) _ (emph-spelled is) first last more begin
+    emph = λ is all place before after e first last front more ends begin. front-told (Emph is) _ (inline_fold.emph spelling.inline_step is) first last more begin
         (stars-front first last false is place before after (emph-accepted rules place before after is e) all (codes "*") refl refl more refl (λ b rest inner. one_star b rest inner));
-    strong = λ is all place before after e first last front more ends begin. front-told (Strong is) _ (strong-spelled is) first last more begin
+    strong = λ is all place before after e first last front more ends begin. front-told (Strong is) _ (inline_fold.strong spelling.inline_step is) first last more begin
         (stars-front first last false is place before after (strong-accepted rules place before after is e) all (codes "**") refl refl more refl (λ b rest inner. two_stars b rest inner));
-    strike = λ is all place before after e first last front more ends begin. front-told (Strike is) _ (strike-spelled is) first last more begin
+    strike = λ is all place before after e first last front more ends begin. front-told (Strike is) _ (inline_fold.strike spelling.inline_step is) first last more begin
         (stars-front first last true is place before after (strike-accepted rules place before after is e) all (codes "~~") refl refl more refl (λ b rest inner. two_tildes b rest inner));
-    link = λ dest title is all place before after e first last front more ends begin. front-told (Link dest title is) _ (link-spelled dest title is) first last more begin
+    link = λ dest title is all place before after e first last front more ends begin. front-told (Link dest title is) _ (inline_fold.link spelling.inline_step dest title is) first last more begin
         (round-front first last (codes "[") (spelled_target dest title) is refl refl (target-is-line dest title) all (inside_link place) (link-accepted rules place before after dest title is e).inside more refl
         (λ h. quiet 91 _ refl refl));
-    image = λ dest title is all place before after e first last front more ends begin. front-told (Image dest title is) _ (image-spelled dest title is) first last more begin
+    image = λ dest title is all place before after e first last front more ends begin. front-told (Image dest title is) _ (inline_fold.image spelling.inline_step dest title is) first last more begin
         (round-front first last (codes "![") (spelled_target dest title) is refl refl (target-is-line dest title) all (further_in place) (image-accepted rules place before after dest title is e).inside more refl
         (λ h. quiet 33 _ refl refl));
   }

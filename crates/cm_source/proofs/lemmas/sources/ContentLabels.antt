@@ -3,18 +3,18 @@ use Rattle.std.proofs.Common.{◌≡◌, ℕ, zero, suc, ◌==◌, ◌&&◌, ◌
 use Rattle.std.specs.Prelude.{if◌then◌else◌}
 use Rattle.std.specs.List.{list_all}
 use Rattle.std.specs.Fmt.{decimal}
+use Rattle.std.specs.Char.{is_ascii_digit}
 use Rattle.std.proofs.lemmas.Bool.{or_parts, or_from, and_parts, and_right, not-true, or_right}
 use Rattle.cm_text.specs.Rules.{Rules}
 use Rattle.cm_text.specs.Characters.{is_ascii_punct}
 use Rattle.cm_tree.specs.declared.tree.Inline.{Inline}
 use Rattle.cm_tree.specs.declared.tree.Inline.TheVariants.{Text, Code, Html, Soft, Hard, Emph, Strong, Strike, Link, Image}
-use Rattle.cm_scan.specs.Words.{is_digit, is_empty, begins_with, after_word, is_at_word, holds_word, given, ◌<|>◌}
+use Rattle.cm_scan.specs.Words.{is_empty, begins_with, after_word, is_at_word, holds_word, given, ◌<|>◌, ◌and_then◌}
 use Rattle.cm_scan.specs.spans.Tags.{after_gap}
-use Rattle.cm_scan.specs.inlines.Links.{Reading, behind, keep_if, escapes_next, up_to_closing, is_label, label, LinkDefinition, destination, titled, untitled, link_definition, definitions_within, definitions_of}
+use Rattle.cm_scan.specs.inlines.Links.{Reading, beyond, keep_if, escapes_next, up_to_closing, is_label, label, LinkDefinition, destination, titled, untitled, link_definition, definitions_within, definitions_of}
 use Rattle.cm_source.specs.Inlines.{Spelled, spelled, join, is_line_end, between}
 use Rattle.cm_source.specs.Texts.{numbered, edge_byte, spelled_text, longest_run, is_padded, spelled_code, spelled_target}
 use Rattle.cm_source.specs.InlineRefusals.{Face, Place, judged, further_in, inside_link, first_face, refusal_of_all, ends_a_label}
-use Rattle.cm_source.proofs.lemmas.shared.InlineKinds.{text-spelled, code-spelled, html-spelled, soft-spelled, hard-spelled, emph-spelled, strong-spelled, strike-spelled, link-spelled, image-spelled}
 use Rattle.cm_source.proofs.lemmas.shared.AcceptedLemmas.{or-none, Accepted, text-accepted, code-accepted, html-accepted, emph-accepted, strong-accepted, strike-accepted, link-accepted}
 use Rattle.cm_source.proofs.lemmas.shared.InlineInduction.{AllHold, Cases, by-cases, all-by-cases}
 use Rattle.cm_source.proofs.lemmas.shared.BytesOfSpellings.{all-digits}
@@ -23,6 +23,8 @@ use Rattle.cm_source.proofs.lemmas.spelling.SpelledTexts.{escapes-none}
 use Rattle.cm_source.proofs.lemmas.shared.ByteSpellings.{SpellsByte, ByNumber, Escaped, AsItIs, spells_edge}
 use Rattle.cm_scan.proofs.lemmas.texts.ToldApart.{differs, differs'}
 use Rattle.cm_source.proofs.lemmas.shared.AllPass.{all-both, all-so}
+use Rattle.cm_tree.proofs.lemmas.InlineFolds as inline_fold
+use Rattle.cm_source.specs.Inlines as spelling
 
 -- ---- where a label ends
 
@@ -41,10 +43,10 @@ unfoldable NoColon : Option Reading → Type 0
 NoColon None = Unit {0}
 NoColon (Some r) = after_word (codes ":") r.rest ≡ None
 
-no-colon-behind : (b : ℕ) (r : Option Reading) → NoColon r → NoColon (behind b r)
+no-colon-beyond : (b : ℕ) (r : Option Reading) → NoColon r → NoColon (beyond b r)
 unfolding NoColon
-no-colon-behind b None e = tt
-no-colon-behind b (Some r) e = e
+no-colon-beyond b None e = tt
+no-colon-beyond b (Some r) e = e
 
 no-colon-next : (bs : List ℕ) → not (begins_with 58 bs) ≡ true → after_word (codes ":") bs ≡ None
 unfolding after_word
@@ -58,30 +60,22 @@ no-colon-next (b ∷ bs) e = go (b == 58) e
 no-colon : (is_escaped : Bool) (text : List ℕ) → is_no_label is_escaped text ≡ true → NoColon (bracketed is_escaped text)
 unfolding is_no_label up_to_closing NoColon
 no-colon is_escaped [] e = tt
-no-colon true (b ∷ bs) e = no-colon-behind b (bracketed false bs) (no-colon false bs e)
+no-colon true (b ∷ bs) e = no-colon-beyond b (bracketed false bs) (no-colon false bs e)
 no-colon false (b ∷ bs) e = go (b == 93) (b == 91) e (no-colon (escapes_next b bs) bs)
   where
     go : (closes opens : Bool) → (if closes then not (begins_with 58 bs) else (if opens then true else is_no_label (escapes_next b bs) bs)) ≡ true
         → (is_no_label (escapes_next b bs) bs ≡ true → NoColon (bracketed (escapes_next b bs) bs))
         → NoColon (elim closes as (λ _. Option Reading) [
           | true ↦ Some (record { text = []; rest = bs })
-          | false ↦ elim opens as (λ _. Option Reading) [ true ↦ None | false ↦ behind b (bracketed (escapes_next b bs) bs) ]
+          | false ↦ elim opens as (λ _. Option Reading) [ true ↦ None | false ↦ beyond b (bracketed (escapes_next b bs) bs) ]
         ])
     go true opens k again = no-colon-next bs k
     go false true k again = tt
-    go false false k again = no-colon-behind b (bracketed (escapes_next b bs) bs) (again k)
+    go false false k again = no-colon-beyond b (bracketed (escapes_next b bs) bs) (again k)
 
 by_label : Option Reading → Option LinkDefinition
-by_label found = elim found [
-  | Some l ↦ elim (after_word (codes ":") l.rest) [
-    | Some behind_colon ↦ elim (destination (after_gap behind_colon)) [
-      | Some d ↦ titled l.text d.text d.rest <|> untitled l.text d.text d.rest
-      | None ↦ None
-    ]
-    | None ↦ None
-  ]
-  | None ↦ None
-]
+by_label found = found and_then λ l. after_word (codes ":") l.rest and_then λ rest. destination (after_gap rest) and_then λ d.
+    titled l.text d.text d.rest <|> untitled l.text d.text d.rest
 
 label-none : (found : Option Reading) → NoColon found → by_label (keep_if is_label found) ≡ None
 unfolding by_label NoColon
@@ -90,13 +84,8 @@ label-none (Some r) e = go (is_label r)
   where
     go : (v : Bool) → by_label (given v r) ≡ None
     go false = refl
-    go true = ap (λ (w : Option (List ℕ)). elim w as (λ _. Option LinkDefinition) [
-      | Some behind_colon ↦ elim (destination (after_gap behind_colon)) [
-        | Some d ↦ titled r.text d.text d.rest <|> untitled r.text d.text d.rest
-        | None ↦ None
-      ]
-      | None ↦ None
-    ]) e
+    go true = ap (λ (w : Option (List ℕ)). w and_then λ rest. destination (after_gap rest) and_then λ d.
+        titled r.text d.text d.rest <|> untitled r.text d.text d.rest) e
 
 bracket-none : (text : List ℕ) → is_no_label false text ≡ true → link_definition (91 ∷ text) ≡ None
 unfolding link_definition label by_label
@@ -133,15 +122,15 @@ all-pass (b ∷ bs) more e h =
     let others = and_parts (not (b == 92)) (not (b == 93)) first.1 in
     one-passes b (bs ++ more) (not-true (b == 91) first.0) (not-true (b == 92) others.0) (not-true (b == 93) others.1) (all-pass bs more parts.1 h)
 
-digit-passes : (b : ℕ) → is_digit b ≡ true → passes_byte b ≡ true
+digit-passes : (b : ℕ) → is_ascii_digit b ≡ true → passes_byte b ≡ true
 unfolding passes_byte
-digit-passes b d = ap (λ v. not v && (not (b == 92) && not (b == 93))) (differs is_digit b 91 d refl)
-    ∙ ap (λ v. not v && not (b == 93)) (differs is_digit b 92 d refl) ∙ ap not (differs is_digit b 93 d refl)
+digit-passes b d = ap (λ v. not v && (not (b == 92) && not (b == 93))) (differs is_ascii_digit b 91 d refl)
+    ∙ ap (λ v. not v && not (b == 93)) (differs is_ascii_digit b 92 d refl) ∙ ap not (differs is_ascii_digit b 93 d refl)
 
 spelling-passes : (b : ℕ) (front : List ℕ) → SpellsByte b front → (more : List ℕ) → is_no_label false more ≡ true → is_no_label false (front ++ more) ≡ true
 unfolding passes_byte is_no_label
 spelling-passes b front (ByNumber low) more h =
-    all-pass (numbered b) more (all-both passes_byte (decimal b) (59 ∷ []) (all-so is_digit passes_byte digit-passes (decimal b) (all-digits b low)) refl) h
+    all-pass (numbered b) more (all-both passes_byte (decimal b) (59 ∷ []) (all-so is_ascii_digit passes_byte digit-passes (decimal b) (all-digits b low)) refl) h
 spelling-passes b front (Escaped punct tick) more h = ap (λ v. is_no_label v (b ∷ more)) punct ∙ h
 spelling-passes b front (AsItIs printed punct) more h =
     one-passes b more (differs' is_ascii_punct b 91 punct refl) (differs' is_ascii_punct b 92 punct refl) (differs' is_ascii_punct b 93 punct refl) h
@@ -274,23 +263,23 @@ module _ (rules : Rules) where
   passes : Cases Passes
   unfolding is_no_label passes_byte
   passes = record {
-    text = λ text place within before after e first last more h. told (Text text) _ (text-spelled text) first last more (text-passes first last text more h);
-    code = λ text place within before after e first last more h. told (Code text) _ (code-spelled text) first last more
+    text = λ text place within before after e first last more h. told (Text text) _ (inline_fold.text spelling.inline_step text) first last more (text-passes first last text more h);
+    code = λ text place within before after e first last more h. told (Code text) _ (inline_fold.code spelling.inline_step text) first last more
         (code-passes text more (no-pair place within text (code-accepted rules place before after text e).no_label) h);
     html = λ text place within before after e first last more h.
         let a = html-accepted rules place before after text e in
         let tag = tag-ends rules text a.one_tag in
-        told (Html text) _ (html-spelled text) first last more (html-passes text more tag.0 tag.1 (no-pair place within text a.no_label) h);
-    soft = λ place within before after e first last more h. told Soft _ soft-spelled first last more (one-passes 10 more refl refl refl h);
-    hard = λ place within before after e first last more h. told Hard _ hard-spelled first last more (one-passes 10 more refl refl refl h);
-    emph = λ is all place within before after e first last more h. told (Emph is) _ (emph-spelled is) first last more
+        told (Html text) _ (inline_fold.html spelling.inline_step text) first last more (html-passes text more tag.0 tag.1 (no-pair place within text a.no_label) h);
+    soft = λ place within before after e first last more h. told Soft _ (inline_fold.soft spelling.inline_step) first last more (one-passes 10 more refl refl refl h);
+    hard = λ place within before after e first last more h. told Hard _ (inline_fold.hard spelling.inline_step) first last more (one-passes 10 more refl refl refl h);
+    emph = λ is all place within before after e first last more h. told (Emph is) _ (inline_fold.emph spelling.inline_step is) first last more
         (round-passes (codes "*") refl is all (further_in place) within (emph-accepted rules place before after is e).inside first last more h);
-    strong = λ is all place within before after e first last more h. told (Strong is) _ (strong-spelled is) first last more
+    strong = λ is all place within before after e first last more h. told (Strong is) _ (inline_fold.strong spelling.inline_step is) first last more
         (round-passes (codes "**") refl is all (further_in place) within (strong-accepted rules place before after is e).inside first last more h);
-    strike = λ is all place within before after e first last more h. told (Strike is) _ (strike-spelled is) first last more
+    strike = λ is all place within before after e first last more h. told (Strike is) _ (inline_fold.strike spelling.inline_step is) first last more
         (round-passes (codes "~~") refl is all (further_in place) within (strike-accepted rules place before after is e).inside first last more h);
-    link = λ dest title is all place within before after e first last more h. told (Link dest title is) _ (link-spelled dest title is) first last more refl;
-    image = λ dest title is all place within before after e first last more h. told (Image dest title is) _ (image-spelled dest title is) first last more refl;
+    link = λ dest title is all place within before after e first last more h. told (Link dest title is) _ (inline_fold.link spelling.inline_step dest title is) first last more refl;
+    image = λ dest title is all place within before after e first last more h. told (Image dest title is) _ (inline_fold.image spelling.inline_step dest title is) first last more refl;
   }
 
   -- ---- the first inline of a paragraph
@@ -327,19 +316,19 @@ module _ (rules : Rules) where
   first-none : (i : Inline) → DefinesNothing i
   unfolding spelled_code
   first-none = by-cases DefinesNothing (record {
-    text = λ text place opens after e last more. none-told (Text text) _ (text-spelled text) last more (text-none last text more (text-accepted rules place None after text e).nonempty);
-    code = λ text place opens after e last more. none-told (Code text) _ (code-spelled text) last more (other-none 96 _ refl);
+    text = λ text place opens after e last more. none-told (Text text) _ (inline_fold.text spelling.inline_step text) last more (text-none last text more (text-accepted rules place None after text e).nonempty);
+    code = λ text place opens after e last more. none-told (Code text) _ (inline_fold.code spelling.inline_step text) last more (other-none 96 _ refl);
     html = λ text place opens after e last more.
         let tag = tag-begins rules text (html-accepted rules place None after text e).one_tag in
-        none-told (Html text) _ (html-spelled text) last more (ap (λ t. link_definition (t ++ more)) tag.1 ∙ other-none 60 (tag.0 ++ more) refl);
-    soft = λ place opens after e last more. none-told Soft _ soft-spelled last more (other-none 10 more refl);
-    hard = λ place opens after e last more. none-told Hard _ hard-spelled last more (other-none 92 (10 ∷ more) refl);
-    emph = λ is all place opens after e last more. none-told (Emph is) _ (emph-spelled is) last more (other-none 42 _ refl);
-    strong = λ is all place opens after e last more. none-told (Strong is) _ (strong-spelled is) last more (other-none 42 _ refl);
-    strike = λ is all place opens after e last more. none-told (Strike is) _ (strike-spelled is) last more (other-none 126 _ refl);
-    link = λ dest title is all place opens after e last more. none-told (Link dest title is) _ (link-spelled dest title is) last more
+        none-told (Html text) _ (inline_fold.html spelling.inline_step text) last more (ap (λ t. link_definition (t ++ more)) tag.1 ∙ other-none 60 (tag.0 ++ more) refl);
+    soft = λ place opens after e last more. none-told Soft _ (inline_fold.soft spelling.inline_step) last more (other-none 10 more refl);
+    hard = λ place opens after e last more. none-told Hard _ (inline_fold.hard spelling.inline_step) last more (other-none 92 (10 ∷ more) refl);
+    emph = λ is all place opens after e last more. none-told (Emph is) _ (inline_fold.emph spelling.inline_step is) last more (other-none 42 _ refl);
+    strong = λ is all place opens after e last more. none-told (Strong is) _ (inline_fold.strong spelling.inline_step is) last more (other-none 42 _ refl);
+    strike = λ is all place opens after e last more. none-told (Strike is) _ (inline_fold.strike spelling.inline_step is) last more (other-none 126 _ refl);
+    link = λ dest title is all place opens after e last more. none-told (Link dest title is) _ (inline_fold.link spelling.inline_step dest title is) last more
         (link-none dest title is place opens (link-accepted rules place None after dest title is e).inside true last more);
-    image = λ dest title is all place opens after e last more. none-told (Image dest title is) _ (image-spelled dest title is) last more (other-none 33 _ refl);
+    image = λ dest title is all place opens after e last more. none-told (Image dest title is) _ (inline_fold.image spelling.inline_step dest title is) last more (other-none 33 _ refl);
   })
 
   -- no definition is at the start of a paragraph's content

@@ -8,11 +8,12 @@ use Rattle.cm_tree.specs.declared.tree.Inline.TheVariants.{Text, Code, Html, Sof
 use Rattle.cm_source.specs.Inlines.{Spelled, spelled, join, is_line_end, between}
 use Rattle.cm_source.specs.Texts.{longest_run, is_padded, padding, spelled_code, spelled_text, spelled_target}
 use Rattle.cm_source.specs.InlineRefusals.{has_nul, has_line_ending, Face, Place, judged, further_in, inside_link, first_face, refusal_of_all}
-use Rattle.cm_source.proofs.lemmas.shared.InlineKinds.{text-spelled, code-spelled, html-spelled, soft-spelled, hard-spelled, emph-spelled, strong-spelled, strike-spelled, link-spelled, image-spelled}
 use Rattle.cm_source.proofs.lemmas.shared.AcceptedLemmas.{or-none, Accepted, code-accepted, html-accepted, soft-accepted, hard-accepted, emph-accepted, strong-accepted, strike-accepted, link-accepted, image-accepted}
 use Rattle.cm_source.proofs.lemmas.shared.InlineInduction.{AllHold, Cases, all-by-cases}
 use Rattle.cm_source.proofs.lemmas.shared.BytesOfSpellings.{is_tame, text-tame, target-tame}
 use Rattle.cm_source.proofs.lemmas.shared.AllPass.{all-both, all-times, all-so}
+use Rattle.cm_tree.proofs.lemmas.InlineFolds as inline_fold
+use Rattle.cm_source.specs.Inlines as spelling
 
 -- neither U+0000 nor a line ending
 unfoldable pub is_line_byte : ℕ → Bool
@@ -117,24 +118,24 @@ module _ (rules : Rules) (heading : Bool) where
   cases : Cases InlineKeeps
   unfolding is_line_byte is_kept
   cases = record {
-    text = λ text place h before after e. told (Text text) _ (text-spelled text) (λ first last. line-keeps (spelled_text first last text) (text-is-line first last text));
+    text = λ text place h before after e. told (Text text) _ (inline_fold.text spelling.inline_step text) (λ first last. line-keeps (spelled_text first last text) (text-is-line first last text));
     code = λ text place h before after e.
         let a = code-accepted rules place before after text e in
-        told (Code text) _ (code-spelled text) (λ first last. line-keeps (spelled_code text) (code-is-line text (one-line text a.no_nul a.one_line)));
+        told (Code text) _ (inline_fold.code spelling.inline_step text) (λ first last. line-keeps (spelled_code text) (code-is-line text (one-line text a.no_nul a.one_line)));
     html = λ text place h before after e.
         let a = html-accepted rules place before after text e in
-        told (Html text) _ (html-spelled text) (λ first last. line-keeps text (one-line text a.no_nul a.one_line));
-    soft = λ place h before after e. told Soft _ soft-spelled (λ first last. break-keeps (codes "\n") refl (sym h ∙ (soft-accepted rules place before after e).no_heading));
-    hard = λ place h before after e. told Hard _ hard-spelled (λ first last. break-keeps (codes "\\\n") refl (sym h ∙ (hard-accepted rules place before after e).no_heading));
-    emph = λ is all place h before after e. told (Emph is) _ (emph-spelled is)
+        told (Html text) _ (inline_fold.html spelling.inline_step text) (λ first last. line-keeps text (one-line text a.no_nul a.one_line));
+    soft = λ place h before after e. told Soft _ (inline_fold.soft spelling.inline_step) (λ first last. break-keeps (codes "\n") refl (sym h ∙ (soft-accepted rules place before after e).no_heading));
+    hard = λ place h before after e. told Hard _ (inline_fold.hard spelling.inline_step) (λ first last. break-keeps (codes "\\\n") refl (sym h ∙ (hard-accepted rules place before after e).no_heading));
+    emph = λ is all place h before after e. told (Emph is) _ (inline_fold.emph spelling.inline_step is)
         (round-keeps (codes "*") (codes "*") is refl refl (content-keeps is all (further_in place) h None (emph-accepted rules place before after is e).inside false false));
-    strong = λ is all place h before after e. told (Strong is) _ (strong-spelled is)
+    strong = λ is all place h before after e. told (Strong is) _ (inline_fold.strong spelling.inline_step is)
         (round-keeps (codes "**") (codes "**") is refl refl (content-keeps is all (further_in place) h None (strong-accepted rules place before after is e).inside false false));
-    strike = λ is all place h before after e. told (Strike is) _ (strike-spelled is)
+    strike = λ is all place h before after e. told (Strike is) _ (inline_fold.strike spelling.inline_step is)
         (round-keeps (codes "~~") (codes "~~") is refl refl (content-keeps is all (further_in place) h None (strike-accepted rules place before after is e).inside false false));
-    link = λ dest title is all place h before after e. told (Link dest title is) _ (link-spelled dest title is)
+    link = λ dest title is all place h before after e. told (Link dest title is) _ (inline_fold.link spelling.inline_step dest title is)
         (round-keeps (codes "[") (spelled_target dest title) is refl (target-is-line dest title) (content-keeps is all (inside_link place) h None (link-accepted rules place before after dest title is e).inside false false));
-    image = λ dest title is all place h before after e. told (Image dest title is) _ (image-spelled dest title is)
+    image = λ dest title is all place h before after e. told (Image dest title is) _ (inline_fold.image spelling.inline_step dest title is)
         (round-keeps (codes "![") (spelled_target dest title) is refl (target-is-line dest title) (content-keeps is all (further_in place) h None (image-accepted rules place before after dest title is e).inside false false));
   }
 

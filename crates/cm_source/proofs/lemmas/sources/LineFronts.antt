@@ -2,16 +2,17 @@
 use Rattle.std.proofs.Common.{◌≡◌, ℕ, zero, suc, ◌==◌, ◌&&◌, ◌||◌, not, Bool, true, false, List, [], ◌∷◌, ◌++◌, replicate, Option, None, refl, sym, ap, subst, ◌∙◌, codes}
 use Rattle.std.specs.Prelude.{if◌then◌else◌, nat_le, length}
 use Rattle.std.specs.List.{list_any}
+use Rattle.std.specs.Char.{is_ascii_digit}
 use Rattle.std.proofs.lemmas.Bool.{cond-true, cond-false, eqb-true}
 use Rattle.cm_text.specs.Rules.{Rules}
-use Rattle.cm_scan.specs.Words.{is_space_or_tab, is_digit, skip, front_of, run_length, after_run, given, trim, trim_start, keep_byte, trim_end_by, trim_end}
-use Rattle.cm_scan.specs.blocks.LineForms.{backticks_or, ItemMarker, is_thematic_break, atx_heading, underline, opening_fence, fence_of, item_marker, bullet_marker, ordered_marker, marker_behind, is_number, decimal_value, ordered_kind, marker_at_gap}
+use Rattle.cm_scan.specs.Words.{is_space_or_tab, skip, front_of, run_length, after_run, given, trim, trim_start, keep_byte, trim_end_by, trim_end}
+use Rattle.cm_scan.specs.blocks.LineForms.{backticks_or, ItemMarker, is_thematic_break, atx_heading, underline, opening_fence, fence_of, item_marker, bullet_marker, ordered_marker, marker_after, is_number, decimal_value, ordered_kind, marker_at_gap}
 use Rattle.cm_scan.specs.blocks.HtmlBlocks.{html_start}
 use Rattle.cm_scan.specs.blocks.Starts.{TextLine, start_of_content}
 use Rattle.cm_scan.specs.laws.BlockLaws.{is_unindented}
 use Rattle.cm_source.specs.Spelling.{in_front, parted_lines}
 use Rattle.cm_source.specs.steps.Sources.{is_only, IsTextLine, AllTextLines}
-use Rattle.cm_scan.proofs.lemmas.blocks.QuietStarts.{starters, is_quiet, no-run, no-fence-of, no-level, no-number, unmarked-start}
+use Rattle.cm_scan.proofs.lemmas.blocks.QuietStarts.{starters, is_quiet, no-fence-of, no-level, no-number, unmarked-start}
 use Rattle.cm_scan.proofs.lemmas.texts.ToldApart.{differs, none-passes}
 
 -- the bytes at which, after stars or tildes, a marker or a run may end
@@ -24,7 +25,7 @@ is_inner b = not (list_any (λ c. b == c) enders)
 -- neither `.` nor `)` follows the digits at its start
 unfoldable pub ends_number : List ℕ → Bool
 ends_number [] = true
-ends_number (b ∷ bs) = elim (is_digit b) [ true ↦ ends_number bs | false ↦ not (b == 46) && not (b == 41) ]
+ends_number (b ∷ bs) = elim (is_ascii_digit b) [ true ↦ ends_number bs | false ↦ not (b == 46) && not (b == 41) ]
 
 -- the first line of a text
 unfoldable pub seen_view : List ℕ → List ℕ
@@ -33,8 +34,8 @@ seen_view (b ∷ bs) = if b == 10 then [] else b ∷ seen_view bs
 
 -- how a line starts that is nothing but text
 pub data Front : List ℕ → Type 0 where
-  quiet : (b : ℕ) (bs : List ℕ) → is_quiet b ≡ true → is_digit b ≡ false → Front (b ∷ bs)
-  number : (b : ℕ) (bs : List ℕ) → is_digit b ≡ true → ends_number (b ∷ bs) ≡ true → Front (b ∷ bs)
+  quiet : (b : ℕ) (bs : List ℕ) → is_quiet b ≡ true → is_ascii_digit b ≡ false → Front (b ∷ bs)
+  number : (b : ℕ) (bs : List ℕ) → is_ascii_digit b ≡ true → ends_number (b ∷ bs) ≡ true → Front (b ∷ bs)
   one_star : (b : ℕ) (bs : List ℕ) → is_inner b ≡ true → Front (42 ∷ b ∷ bs)
   two_stars : (b : ℕ) (bs : List ℕ) → is_inner b ≡ true → Front (42 ∷ 42 ∷ b ∷ bs)
   two_tildes : (b : ℕ) (bs : List ℕ) → is_inner b ≡ true → Front (126 ∷ 126 ∷ b ∷ bs)
@@ -60,21 +61,21 @@ unfolding seen_view
 line-run zero rest = refl
 line-run (suc n) rest = ap (λ l. 96 ∷ l) (line-run n rest)
 
-pub ends-digit : (b : ℕ) (bs : List ℕ) → is_digit b ≡ true → ends_number (b ∷ bs) ≡ ends_number bs
+pub ends-digit : (b : ℕ) (bs : List ℕ) → is_ascii_digit b ≡ true → ends_number (b ∷ bs) ≡ ends_number bs
 unfolding ends_number
 ends-digit b bs e = ap (λ v. elim v as (λ _. Bool) [ true ↦ ends_number bs | false ↦ not (b == 46) && not (b == 41) ]) e
 
-pub ends-other : (b : ℕ) (bs : List ℕ) → is_digit b ≡ false → ends_number (b ∷ bs) ≡ (not (b == 46) && not (b == 41))
+pub ends-other : (b : ℕ) (bs : List ℕ) → is_ascii_digit b ≡ false → ends_number (b ∷ bs) ≡ (not (b == 46) && not (b == 41))
 unfolding ends_number
 ends-other b bs e = ap (λ v. elim v as (λ _. Bool) [ true ↦ ends_number bs | false ↦ not (b == 46) && not (b == 41) ]) e
 
 line-ends : (bs : List ℕ) → ends_number bs ≡ true → ends_number (seen_view bs) ≡ true
 unfolding seen_view ends_number
 line-ends [] e = refl
-line-ends (b ∷ bs) e = go (b == 10) (is_digit b) refl refl (line-ends bs)
+line-ends (b ∷ bs) e = go (b == 10) (is_ascii_digit b) refl refl (line-ends bs)
   where
     -- the end of a line, a digit, another byte
-    go : (v d : Bool) → (b == 10) ≡ v → is_digit b ≡ d → (ends_number bs ≡ true → ends_number (seen_view bs) ≡ true) → ends_number (seen_view (b ∷ bs)) ≡ true
+    go : (v d : Bool) → (b == 10) ≡ v → is_ascii_digit b ≡ d → (ends_number bs ≡ true → ends_number (seen_view bs) ≡ true) → ends_number (seen_view (b ∷ bs)) ≡ true
     go true d p q again = ap ends_number (cond-true (b == 10) [] (b ∷ seen_view bs) p)
     go false true p q again = ap ends_number (line-keeps b bs p) ∙ ends-digit b (seen_view bs) q ∙ again (sym (ends-digit b bs q) ∙ e)
     go false false p q again = ap ends_number (line-keeps b bs p) ∙ ends-other b (seen_view bs) q ∙ sym (ends-other b bs q) ∙ e
@@ -109,38 +110,38 @@ both-other b e = go (b == 46) (b == 41) e
     go true w k = absurd (cc k)
     go false true k = absurd (cc k)
 
-no-delimiter : (digits : List ℕ) (b : ℕ) (bs : List ℕ) → (b == 46) ≡ false → (b == 41) ≡ false → marker_behind digits (b ∷ bs) ≡ None
-unfolding marker_behind
+no-delimiter : (digits : List ℕ) (b : ℕ) (bs : List ℕ) → (b == 46) ≡ false → (b == 41) ≡ false → marker_after digits (b ∷ bs) ≡ None
+unfolding marker_after
 no-delimiter digits b bs p q = go (is_number digits)
   where
     go : (v : Bool) → elim v as (λ _. Option ItemMarker) [ true ↦ marker_at_gap (ordered_kind (decimal_value digits) b) (length digits) bs | false ↦ None ] ≡ None
     go true = rw (p, q) refl
     go false = refl
 
-no-marker : (digits text : List ℕ) → ends_number text ≡ true → marker_behind digits (skip is_digit text) ≡ None
-unfolding skip marker_behind
+no-marker : (digits text : List ℕ) → ends_number text ≡ true → marker_after digits (skip is_ascii_digit text) ≡ None
+unfolding skip marker_after
 no-marker digits [] e = refl
-no-marker digits (b ∷ bs) e = go (is_digit b) refl (no-marker digits bs)
+no-marker digits (b ∷ bs) e = go (is_ascii_digit b) refl (no-marker digits bs)
   where
-    go : (d : Bool) → is_digit b ≡ d → (ends_number bs ≡ true → marker_behind digits (skip is_digit bs) ≡ None) → marker_behind digits (skip is_digit (b ∷ bs)) ≡ None
-    go true d again = ap (λ v. marker_behind digits (elim v as (λ _. List ℕ) [ true ↦ skip is_digit bs | false ↦ b ∷ bs ])) d ∙ again (sym (ends-digit b bs d) ∙ e)
+    go : (d : Bool) → is_ascii_digit b ≡ d → (ends_number bs ≡ true → marker_after digits (skip is_ascii_digit bs) ≡ None) → marker_after digits (skip is_ascii_digit (b ∷ bs)) ≡ None
+    go true d again = ap (λ v. marker_after digits (elim v as (λ _. List ℕ) [ true ↦ skip is_ascii_digit bs | false ↦ b ∷ bs ])) d ∙ again (sym (ends-digit b bs d) ∙ e)
     go false d again =
         let other = both-other b (sym (ends-other b bs d) ∙ e) in
-        ap (λ v. marker_behind digits (elim v as (λ _. List ℕ) [ true ↦ skip is_digit bs | false ↦ b ∷ bs ])) d ∙ no-delimiter digits b bs other.0 other.1
+        ap (λ v. marker_after digits (elim v as (λ _. List ℕ) [ true ↦ skip is_ascii_digit bs | false ↦ b ∷ bs ])) d ∙ no-delimiter digits b bs other.0 other.1
 
 -- a digit starts nothing but a marker
-digit-quiet : (b : ℕ) → is_digit b ≡ true → is_quiet b ≡ true
+digit-quiet : (b : ℕ) → is_ascii_digit b ≡ true → is_quiet b ≡ true
 unfolding is_quiet
-digit-quiet b d = ap not (none-passes is_digit b starters d refl)
+digit-quiet b d = ap not (none-passes is_ascii_digit b starters d refl)
 
-number-text : (rules : Rules) (b : ℕ) (bs : List ℕ) → is_digit b ≡ true → ends_number (b ∷ bs) ≡ true → IsText rules (b ∷ bs)
+number-text : (rules : Rules) (b : ℕ) (bs : List ℕ) → is_ascii_digit b ≡ true → ends_number (b ∷ bs) ≡ true → IsText rules (b ∷ bs)
 unfolding ordered_marker
-number-text rules b bs d e = unmarked-text rules b bs (digit-quiet b d) (no-marker (front_of is_digit (b ∷ bs)) (b ∷ bs) e)
+number-text rules b bs d e = unmarked-text rules b bs (digit-quiet b d) (no-marker (front_of is_ascii_digit (b ∷ bs)) (b ∷ bs) e)
 
 -- ---- stars and tildes
 
 star-start : (rules : Rules) (b : ℕ) (bs : List ℕ) → is_inner b ≡ true → start_of_content rules (42 ∷ b ∷ bs) ≡ TextLine
-unfolding is_inner start_of_content atx_heading opening_fence fence_of html_start is_thematic_break item_marker bullet_marker ordered_marker marker_behind run_length after_run skip front_of
+unfolding is_inner start_of_content atx_heading opening_fence fence_of html_start is_thematic_break item_marker bullet_marker ordered_marker marker_after run_length after_run skip front_of
 star-start rules b bs q = rw (differs is_inner b 42 q refl, differs is_inner b 32 q refl, differs is_inner b 9 q refl) refl
 
 star-text : (rules : Rules) (b : ℕ) (bs : List ℕ) → is_inner b ≡ true → IsText rules (42 ∷ b ∷ bs)
@@ -148,7 +149,7 @@ unfolding is_inner underline run_length
 star-text rules b bs q = record { bare = refl; starts = star-start rules b bs q; no_underline = refl; no_dashes = refl; no_stars = rw (differs is_inner b 42 q refl, differs is_inner b 32 q refl, differs is_inner b 9 q refl) refl }
 
 stars-start : (rules : Rules) (b : ℕ) (bs : List ℕ) → is_inner b ≡ true → start_of_content rules (42 ∷ 42 ∷ b ∷ bs) ≡ TextLine
-unfolding is_inner start_of_content atx_heading opening_fence fence_of html_start is_thematic_break item_marker bullet_marker ordered_marker marker_behind run_length after_run skip front_of
+unfolding is_inner start_of_content atx_heading opening_fence fence_of html_start is_thematic_break item_marker bullet_marker ordered_marker marker_after run_length after_run skip front_of
 stars-start rules b bs q = rw (differs is_inner b 42 q refl, differs is_inner b 32 q refl, differs is_inner b 9 q refl) refl
 
 stars-text : (rules : Rules) (b : ℕ) (bs : List ℕ) → is_inner b ≡ true → IsText rules (42 ∷ 42 ∷ b ∷ bs)
@@ -156,7 +157,7 @@ unfolding is_inner underline run_length
 stars-text rules b bs q = record { bare = refl; starts = stars-start rules b bs q; no_underline = refl; no_dashes = refl; no_stars = rw (differs is_inner b 42 q refl, differs is_inner b 32 q refl, differs is_inner b 9 q refl) refl }
 
 tildes-start : (rules : Rules) (b : ℕ) (bs : List ℕ) → is_inner b ≡ true → start_of_content rules (126 ∷ 126 ∷ b ∷ bs) ≡ TextLine
-unfolding is_inner start_of_content atx_heading opening_fence fence_of html_start is_thematic_break item_marker bullet_marker ordered_marker marker_behind run_length after_run skip front_of
+unfolding is_inner start_of_content atx_heading opening_fence fence_of html_start is_thematic_break item_marker bullet_marker ordered_marker marker_after run_length after_run skip front_of
 tildes-start rules b bs q = rw (differs is_inner b 126 q refl) refl
 
 tildes-text : (rules : Rules) (b : ℕ) (bs : List ℕ) → is_inner b ≡ true → IsText rules (126 ∷ 126 ∷ b ∷ bs)
@@ -189,7 +190,7 @@ end-kept (b ∷ bs) e = go (trim_end bs) (end-kept bs) (b == 96) refl
     last true p q = absurd (cc (p, sym (ap is_space_or_tab (eqb-true b 96 q))))
     last false p q = ap (λ v. v || false) q
 
-    go : (left : List ℕ) → (holds_backtick bs ≡ true → holds_backtick left ≡ true) → (v : Bool) → (b == 96) ≡ v → holds_backtick (keep_byte true b left) ≡ true
+    go : (left : List ℕ) → (holds_backtick bs ≡ true → holds_backtick left ≡ true) → (v : Bool) → (b == 96) ≡ v → holds_backtick (keep_byte is_space_or_tab b left) ≡ true
     go [] again true q = last (is_space_or_tab b) refl q
     go [] again false q = absurd (cc (again (sym (ap (λ v. v || holds_backtick bs) q) ∙ e)))
     go (c ∷ cs) again true q = ap (λ v. v || holds_backtick (c ∷ cs)) q
@@ -210,7 +211,7 @@ fence-holds text e none = go (nat_le 3 (run_length 96 text))
     go false = none
 
 ticks-start : (rules : Rules) (bs : List ℕ) → opening_fence (96 ∷ bs) ≡ None → start_of_content rules (96 ∷ bs) ≡ TextLine
-unfolding start_of_content atx_heading html_start is_thematic_break item_marker bullet_marker ordered_marker marker_behind run_length after_run skip front_of
+unfolding start_of_content atx_heading html_start is_thematic_break item_marker bullet_marker ordered_marker marker_after run_length after_run skip front_of
 ticks-start rules bs none = rw none refl
 
 ticks-text : (rules : Rules) (n b : ℕ) (bs : List ℕ) → (b == 96) ≡ false → holds_backtick (b ∷ bs) ≡ true → IsText rules (replicate (suc n) 96 ++ b ∷ bs)

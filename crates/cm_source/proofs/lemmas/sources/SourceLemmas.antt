@@ -15,12 +15,12 @@ use Rattle.cm_source.specs.InlineRefusals.{has_nul, paragraph_refusal, heading_r
 use Rattle.cm_source.specs.Texts.{spelled_text}
 use Rattle.cm_source.specs.steps.Sources.{IsParagraphSource, IsHeadingSource, IsInfoSource, ContentsGiveSources}
 use Rattle.cm_source.proofs.lemmas.sources.ContentEnds.{trimmed-start, trimmed-end, unclosed, text-bare, text-well, content-bare, content-ends}
-use Rattle.cm_source.proofs.lemmas.sources.ContentFronts.{paragraph-lines}
 use Rattle.cm_source.proofs.lemmas.sources.ContentLabels.{defines-nothing, content-none}
 use Rattle.cm_source.proofs.lemmas.sources.KeptBytes.{is_kept, contents-keep, text-is-line, is_line_byte}
 use Rattle.cm_source.proofs.lemmas.sources.LineFronts.{seen_view, further_lines, parted-lines, front-line, lines-are-text, first-front}
 use Rattle.cm_source.proofs.lemmas.shared.BytesOfSpellings.{is_tame, text-tame, none-tame}
 use Rattle.cm_source.proofs.lemmas.inlines.UnescapeBack.{unescape_text}
+use Rattle.cm_source.proofs.lemmas.sources.ContentFronts.{paragraph-lines}
 
 paragraph-source : (rules : Rules) (content : List Inline) → paragraph_refusal rules content ≡ None → list_any (λ i. true) content ≡ true → IsParagraphSource rules (spelled_content content)
 unfolding is_kept

@@ -45,8 +45,8 @@ ended-first (b ∷ bs) rest none = go (b == 10) none (λ h. ended-first bs rest 
     go false none again = ap (in_front b) (again none)
 
 -- a line that is cut off at a line feed, and what is after that
-pub cut-first : (text line behind : List ℕ) (i : ℕ) → position (λ b. b == 10) text ≡ Some i → line ≡ take i text → behind ≡ drop (i + 1) text → ended_lines text ≡ line ∷ ended_lines behind
-cut-first text line behind i found before after =
+pub cut-first : (text line beyond : List ℕ) (i : ℕ) → position (λ b. b == 10) text ≡ Some i → line ≡ take i text → beyond ≡ drop (i + 1) text → ended_lines text ≡ line ∷ ended_lines beyond
+cut-first text line beyond i found before after =
     let at = feed-at text i found in
     ap ended_lines at.1 ∙ ended-first (take i text) (drop (i + 1) text) at.0 ∙ ap (λ l. l ∷ ended_lines (drop (i + 1) text)) (sym before) ∙ ap (λ t. line ∷ ended_lines t) (sym after)
 

@@ -11,7 +11,8 @@ use Rattle.cm_tree.specs.declared.tree.ListKind.{ListKind}
 use Rattle.cm_tree.specs.declared.tree.ListKind.TheVariants.{Dash, Plus, Star, Dot, Paren}
 use Rattle.cm_source.specs.declared.source_lines.SourceLines.{SourceLines}
 use Rattle.cm_source.specs.Spelling.{after_space, gap, joined, spaced, quoted, quote_lines, marker, indented, item_lines, lines_of_block}
-use Rattle.cm_source.specs.steps.WrittenLines.{behind, further_lines, all_lines, next_begun, next_front, or_empty_line, IsBetween, Writes, Enters, Leaves}
+use Rattle.cm_source.specs.steps.WrittenLines.{beyond, further_lines, all_lines, next_begun, next_front, or_empty_line, Writes, Enters, Leaves}
+use Rattle.cm_source.specs.BetweenLines.{IsBetween}
 use Rattle.cm_source.proofs.lemmas.spelling.WrittenLineLemmas.{kept-front, all-alike}
 
 -- some lines, where there was a gap before the first or none
@@ -43,18 +44,18 @@ module _ (mark further : List ℕ) (outer : List (List ℕ) → List (List ℕ))
 
 -- a quote
 
-quoted-behind : (front line : List ℕ) → behind (front ++ codes "> ") line ≡ behind front (quoted line)
+quoted-beyond : (front line : List ℕ) → beyond (front ++ codes "> ") line ≡ beyond front (quoted line)
 unfolding trim_end_by
-quoted-behind front [] = kept-front front (codes "> ") 62 [] refl
-quoted-behind front (b ∷ bs) = append_assoc front (codes "> ") (b ∷ bs)
+quoted-beyond front [] = kept-front front (codes "> ") 62 [] refl
+quoted-beyond front (b ∷ bs) = append_assoc front (codes "> ") (b ∷ bs)
 
 quoted-further : (front : List ℕ) (lines : List (List ℕ)) → further_lines (front ++ codes "> ") lines ≡ further_lines front (map quoted lines)
 quoted-further front [] = refl
-quoted-further front (line ∷ lines) = ap (λ t. (t ++ 10 ∷ []) ++ further_lines (front ++ codes "> ") lines) (quoted-behind front line) ∙ ap (λ t. (behind front (quoted line) ++ 10 ∷ []) ++ t) (quoted-further front lines)
+quoted-further front (line ∷ lines) = ap (λ t. (t ++ 10 ∷ []) ++ further_lines (front ++ codes "> ") lines) (quoted-beyond front line) ∙ ap (λ t. (beyond front (quoted line) ++ 10 ∷ []) ++ t) (quoted-further front lines)
 
 pub quote-marks : Marks (codes "> ") (codes "> ") quote_lines
-quote-marks first front [] = ap (λ t. t ++ 10 ∷ []) (quoted-behind first [])
-quote-marks first front (line ∷ lines) = ap (λ t. t ++ 10 ∷ further_lines (front ++ codes "> ") lines) (quoted-behind first line) ∙ ap (λ t. behind first (quoted line) ++ 10 ∷ t) (quoted-further front lines)
+quote-marks first front [] = ap (λ t. t ++ 10 ∷ []) (quoted-beyond first [])
+quote-marks first front (line ∷ lines) = ap (λ t. t ++ 10 ∷ further_lines (front ++ codes "> ") lines) (quoted-beyond first line) ∙ ap (λ t. beyond first (quoted line) ++ 10 ∷ t) (quoted-further front lines)
 
 pub quote-some : IsSome (codes "> ") (codes "> ") quote_lines
 quote-some [] = (quoted [], [], refl)
@@ -69,32 +70,32 @@ pub record IsMark (mark : List ℕ) : Type 0 where
   pub is : mark ≡ byte ∷ rest
   pub stripped : (front : List ℕ) → trim_end_spaces (front ++ (mark ++ codes " ")) ≡ front ++ mark
 
-marked-behind : (mark front line : List ℕ) → IsMark mark → behind (front ++ (mark ++ codes " ")) line ≡ behind front (mark ++ spaced line)
-marked-behind mark front [] m = m.stripped front ∙ ap (λ t. front ++ t) m.is ∙ ap (λ t. behind front t) (sym (append-nil mark ∙ m.is))
-marked-behind mark front (b ∷ bs) m =
-    append_assoc front (mark ++ codes " ") (b ∷ bs) ∙ ap (λ t. front ++ t) (append_assoc mark (codes " ") (b ∷ bs)) ∙ ap (λ t. front ++ (t ++ 32 ∷ b ∷ bs)) m.is ∙ ap (λ t. behind front (t ++ 32 ∷ b ∷ bs)) (sym m.is)
+marked-beyond : (mark front line : List ℕ) → IsMark mark → beyond (front ++ (mark ++ codes " ")) line ≡ beyond front (mark ++ spaced line)
+marked-beyond mark front [] m = m.stripped front ∙ ap (λ t. front ++ t) m.is ∙ ap (λ t. beyond front t) (sym (append-nil mark ∙ m.is))
+marked-beyond mark front (b ∷ bs) m =
+    append_assoc front (mark ++ codes " ") (b ∷ bs) ∙ ap (λ t. front ++ t) (append_assoc mark (codes " ") (b ∷ bs)) ∙ ap (λ t. front ++ (t ++ 32 ∷ b ∷ bs)) m.is ∙ ap (λ t. beyond front (t ++ 32 ∷ b ∷ bs)) (sym m.is)
 
 spaces-gone : (front : List ℕ) (n : ℕ) → trim_end_spaces (front ++ replicate n 32) ≡ trim_end_spaces front
 unfolding trim_end_by
 spaces-gone [] zero = refl
-spaces-gone [] (suc n) = ap (keep_byte false 32) (spaces-gone [] n)
-spaces-gone (b ∷ bs) n = ap (keep_byte false b) (spaces-gone bs n)
+spaces-gone [] (suc n) = ap (keep_byte (λ c. c == 32) 32) (spaces-gone [] n)
+spaces-gone (b ∷ bs) n = ap (keep_byte (λ c. c == 32) b) (spaces-gone bs n)
 
-indented-behind : (front line : List ℕ) (n : ℕ) → behind (front ++ replicate n 32) line ≡ behind front (indented n line)
-indented-behind front [] n = spaces-gone front n
-indented-behind front (b ∷ bs) zero = append_assoc front [] (b ∷ bs)
-indented-behind front (b ∷ bs) (suc n) = append_assoc front (replicate (suc n) 32) (b ∷ bs)
+indented-beyond : (front line : List ℕ) (n : ℕ) → beyond (front ++ replicate n 32) line ≡ beyond front (indented n line)
+indented-beyond front [] n = spaces-gone front n
+indented-beyond front (b ∷ bs) zero = append_assoc front [] (b ∷ bs)
+indented-beyond front (b ∷ bs) (suc n) = append_assoc front (replicate (suc n) 32) (b ∷ bs)
 
 indented-further : (front : List ℕ) (lines : List (List ℕ)) (n : ℕ) → further_lines (front ++ replicate n 32) lines ≡ further_lines front (map (indented n) lines)
 indented-further front [] n = refl
 indented-further front (line ∷ lines) n =
-    ap (λ t. (t ++ 10 ∷ []) ++ further_lines (front ++ replicate n 32) lines) (indented-behind front line n) ∙ ap (λ t. (behind front (indented n line) ++ 10 ∷ []) ++ t) (indented-further front lines n)
+    ap (λ t. (t ++ 10 ∷ []) ++ further_lines (front ++ replicate n 32) lines) (indented-beyond front line n) ∙ ap (λ t. (beyond front (indented n line) ++ 10 ∷ []) ++ t) (indented-further front lines n)
 
 item-marks : (mark : List ℕ) → IsMark mark → Marks (mark ++ codes " ") (replicate (length mark + 1) 32) (item_lines mark)
-item-marks mark m first front [] = ap (λ t. t ++ 10 ∷ []) (marked-behind mark first [] m) ∙ ap (λ t. behind first t ++ 10 ∷ []) (append-nil mark)
+item-marks mark m first front [] = ap (λ t. t ++ 10 ∷ []) (marked-beyond mark first [] m) ∙ ap (λ t. beyond first t ++ 10 ∷ []) (append-nil mark)
 item-marks mark m first front (line ∷ lines) =
-    ap (λ t. t ++ 10 ∷ further_lines (front ++ replicate (length mark + 1) 32) lines) (marked-behind mark first line m)
-    ∙ ap (λ t. behind first (mark ++ spaced line) ++ 10 ∷ t) (indented-further front lines (length mark + 1))
+    ap (λ t. t ++ 10 ∷ further_lines (front ++ replicate (length mark + 1) 32) lines) (marked-beyond mark first line m)
+    ∙ ap (λ t. beyond first (mark ++ spaced line) ++ 10 ∷ t) (indented-further front lines (length mark + 1))
 
 item-some : (mark : List ℕ) → IsSome (mark ++ codes " ") (replicate (length mark + 1) 32) (item_lines mark)
 item-some mark [] = (mark, [], refl)
@@ -156,22 +157,22 @@ lines_of_items kind tight items = joined (not tight) (item_lines_of kind tight i
 
 -- lines with nothing before them
 
-behind-nothing : (line : List ℕ) → behind [] line ≡ line
+beyond-nothing : (line : List ℕ) → beyond [] line ≡ line
 unfolding trim_end_by
-behind-nothing [] = refl
-behind-nothing (b ∷ bs) = refl
+beyond-nothing [] = refl
+beyond-nothing (b ∷ bs) = refl
 
 further-nothing : (lines : List (List ℕ)) → further_lines [] lines ≡ flat_map (λ line. line ++ 10 ∷ []) lines
 further-nothing [] = refl
-further-nothing (line ∷ lines) = ap (λ t. (t ++ 10 ∷ []) ++ further_lines [] lines) (behind-nothing line) ∙ ap (λ t. (line ++ 10 ∷ []) ++ t) (further-nothing lines)
+further-nothing (line ∷ lines) = ap (λ t. (t ++ 10 ∷ []) ++ further_lines [] lines) (beyond-nothing line) ∙ ap (λ t. (line ++ 10 ∷ []) ++ t) (further-nothing lines)
 
 -- lines that are written after others
-pub written-behind : (lines : List (List ℕ)) (old new : SourceLines) (done : List ℕ) → IsBetween old false done [] [] → Writes old new lines
+pub written-beyond : (lines : List (List ℕ)) (old new : SourceLines) (done : List ℕ) → IsBetween old false done [] [] → Writes old new lines
     → IsBetween new false (done ++ flat_map (λ line. line ++ 10 ∷ []) lines) [] []
-written-behind [] old new done is writes = writes false done [] [] is
-written-behind (line ∷ lines) old new done is writes =
+written-beyond [] old new done is writes = writes false done [] [] is
+written-beyond (line ∷ lines) old new done is writes =
     subst (λ t. IsBetween new false (done ++ t) [] []) (all-alike [] (line ∷ lines) ∙ further-nothing (line ∷ lines)) (writes false done [] [] is)
 
 -- a document's lines
 pub text-is : (lines : List (List ℕ)) (empty new : SourceLines) → IsBetween empty false [] [] [] → Writes empty new lines → string_bytes new.text ≡ flat_map (λ line. line ++ 10 ∷ []) lines
-text-is lines empty new nothing writes = (written-behind lines empty new [] nothing writes).stands.0
+text-is lines empty new nothing writes = (written-beyond lines empty new [] nothing writes).stands.0

@@ -26,9 +26,9 @@ pub by-number : (b : ℕ) → (b == 96 || is_ascii_control b) ≡ true → spell
 unfolding spelled_byte
 by-number b e = grind (arith, e)
 
-pub behind-backslash : (b : ℕ) → is_spelled b ≡ true → (b == 96) ≡ false → is_ascii_control b ≡ false → spelled_byte b ≡ 92 ∷ b ∷ []
+pub beyond-backslash : (b : ℕ) → is_spelled b ≡ true → (b == 96) ≡ false → is_ascii_control b ≡ false → spelled_byte b ≡ 92 ∷ b ∷ []
 unfolding spelled_byte
-behind-backslash b is other printed = grind (arith, is, other, printed)
+beyond-backslash b is other printed = grind (arith, is, other, printed)
 
 -- only a backslash escapes what follows
 pub escapes-none : (b : ℕ) (bs : List ℕ) → (b == 92) ≡ false → escapes_next b bs ≡ false
@@ -42,15 +42,15 @@ unfolding spelled_text
 inner-text [] = refl
 inner-text (b ∷ bs) = ap (λ t. spelled_byte b ++ t) (inner-text bs)
 
-some-behind : (b : ℕ) (text rest : List ℕ) → is_empty (text ++ b ∷ rest) ≡ false
-some-behind b [] rest = refl
-some-behind b (c ∷ cs) rest = refl
+some-beyond : (b : ℕ) (text rest : List ℕ) → is_empty (text ++ b ∷ rest) ≡ false
+some-beyond b [] rest = refl
+some-beyond b (c ∷ cs) rest = refl
 
 pub space-last : (front : List ℕ) → spelled_text false true (front ++ 32 ∷ []) ≡ spelled_bytes front ++ numbered 32
 unfolding spelled_text
 space-last [] = append-nil (numbered 32)
 space-last (b ∷ bs) =
-    ap (λ v. edge_byte (false || true && v) b ++ spelled_text false true (bs ++ 32 ∷ [])) (some-behind 32 bs [])
+    ap (λ v. edge_byte (false || true && v) b ++ spelled_text false true (bs ++ 32 ∷ [])) (some-beyond 32 bs [])
     ∙ ap (λ t. spelled_byte b ++ t) (space-last bs) ∙ sym (append_assoc (spelled_byte b) (spelled_bytes bs) (numbered 32))
 
 pub no-space-last : (text : List ℕ) → ((front : List ℕ) → text ≡ front ++ 32 ∷ [] → ⊥) → spelled_text false true text ≡ spelled_bytes text

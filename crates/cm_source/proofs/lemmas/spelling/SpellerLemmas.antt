@@ -13,11 +13,12 @@ use Rattle.cm_source.specs.declared.refusals.Face.{Face as SeenFace}
 use Rattle.cm_source.specs.declared.speller.Speller as code
 use Rattle.cm_source.specs.Answers.{ok_unless}
 use Rattle.cm_source.specs.Refusals.{BlockFace, JudgedBlock, judged_block, refusal_of_all, refusal_of, IsSpellable}
-use Rattle.cm_source.specs.Speller.{face_behind, HasSpelled, Refuses}
+use Rattle.cm_source.specs.Speller.{face_after, HasSpelled, Refuses}
 use Rattle.cm_source.specs.Spelling.{gap, joined, lines_of_block, lines_of_blocks, spelling_of}
-use Rattle.cm_source.specs.steps.BlockFaces.{seen}
-use Rattle.cm_source.specs.steps.WrittenLines.{IsBetween, Writes}
-use Rattle.cm_source.proofs.lemmas.spelling.SpelledBlocks.{written-behind}
+use Rattle.cm_source.specs.Faces.{seen}
+use Rattle.cm_source.specs.steps.WrittenLines.{Writes}
+use Rattle.cm_source.specs.BetweenLines.{IsBetween}
+use Rattle.cm_source.proofs.lemmas.spelling.SpelledBlocks.{written-beyond}
 use Rattle.cm_source.proofs.lemmas.refusals.RefusalLemmas.{no-reason}
 
 -- why blocks are refused that are after others
@@ -26,31 +27,31 @@ or-more : (first second third : Option Why) → first <|> (second <|> third) ≡
 or-more None second third = refl
 or-more (Some why) second third = refl
 
-refusal-behind : (before : Option BlockFace) (blocks others : List JudgedBlock) → refusal_of_all before (blocks ++ others) ≡ refusal_of_all before blocks <|> refusal_of_all (face_behind before blocks) others
-refusal-behind before [] others = refl
-refusal-behind before (next ∷ blocks) others =
-    ap (λ r. next.refusal before <|> r) (refusal-behind (Some next.face) blocks others)
-    ∙ or-more (next.refusal before) (refusal_of_all (Some next.face) blocks) (refusal_of_all (face_behind (Some next.face) blocks) others)
+refusal-beyond : (before : Option BlockFace) (blocks others : List JudgedBlock) → refusal_of_all before (blocks ++ others) ≡ refusal_of_all before blocks <|> refusal_of_all (face_after before blocks) others
+refusal-beyond before [] others = refl
+refusal-beyond before (next ∷ blocks) others =
+    ap (λ r. next.refusal before <|> r) (refusal-beyond (Some next.face) blocks others)
+    ∙ or-more (next.refusal before) (refusal_of_all (Some next.face) blocks) (refusal_of_all (face_after (Some next.face) blocks) others)
 
-face-behind : (before : Option BlockFace) (blocks : List JudgedBlock) (last : JudgedBlock) → face_behind before (blocks ++ last ∷ []) ≡ Some last.face
-face-behind before [] last = refl
-face-behind before (next ∷ blocks) last = face-behind (Some next.face) blocks last
+face-beyond : (before : Option BlockFace) (blocks : List JudgedBlock) (last : JudgedBlock) → face_after before (blocks ++ last ∷ []) ≡ Some last.face
+face-beyond before [] last = refl
+face-beyond before (next ∷ blocks) last = face-beyond (Some next.face) blocks last
 
 module _ (rules : Rules) (blocks : List Block) (block : Block) where
   abbrev last_seen : Option BlockFace
-  last_seen = face_behind None (map (judged_block rules) blocks)
+  last_seen = face_after None (map (judged_block rules) blocks)
 
-  behind-is : (others : List Block) → IsSpellable rules blocks → refusal_of rules (blocks ++ block ∷ others) ≡ (judged_block rules block).refusal last_seen <|> refusal_of_all (Some (judged_block rules block).face) (map (judged_block rules) others)
-  behind-is others e =
+  beyond-is : (others : List Block) → IsSpellable rules blocks → refusal_of rules (blocks ++ block ∷ others) ≡ (judged_block rules block).refusal last_seen <|> refusal_of_all (Some (judged_block rules block).face) (map (judged_block rules) others)
+  beyond-is others e =
       ap (refusal_of_all None) (map-append (judged_block rules) blocks (block ∷ others))
-      ∙ refusal-behind None (map (judged_block rules) blocks) (map (judged_block rules) (block ∷ others))
+      ∙ refusal-beyond None (map (judged_block rules) blocks) (map (judged_block rules) (block ∷ others))
       ∙ ap (λ r. r <|> refusal_of_all last_seen (map (judged_block rules) (block ∷ others))) e
 
   pub one-more : IsSpellable rules blocks → (judged_block rules block).refusal last_seen ≡ None → IsSpellable rules (blocks ++ block ∷ [])
-  one-more e fine = behind-is [] e ∙ ap (λ r. r <|> None) fine
+  one-more e fine = beyond-is [] e ∙ ap (λ r. r <|> None) fine
 
   pub refuses : (why : Why) → IsSpellable rules blocks → Err why ≡ ok_unless ((judged_block rules block).refusal last_seen) → Refuses (Unspellable why) rules blocks block
-  refuses why e told others = behind-is others e ∙ go ((judged_block rules block).refusal last_seen) told
+  refuses why e told others = beyond-is others e ∙ go ((judged_block rules block).refusal last_seen) told
     where
       go : (reason : Option Why) → Err why ≡ ok_unless reason → reason <|> refusal_of_all (Some (judged_block rules block).face) (map (judged_block rules) others) ≡ Some why
       go None told = absurd (cc told)
@@ -58,9 +59,9 @@ module _ (rules : Rules) (blocks : List Block) (block : Block) where
 
 -- the lines of blocks and one after them
 
-some-behind : (before : Option BlockFace) (blocks : List JudgedBlock) → is_some before ≡ true → is_some (face_behind before blocks) ≡ true
-some-behind before [] some = some
-some-behind before (next ∷ blocks) some = some-behind (Some next.face) blocks refl
+some-beyond : (before : Option BlockFace) (blocks : List JudgedBlock) → is_some before ≡ true → is_some (face_after before blocks) ≡ true
+some-beyond before [] some = some
+some-beyond before (next ∷ blocks) some = some-beyond (Some next.face) blocks refl
 
 seen-some : (before : Option SeenFace) → is_some before ≡ is_some (seen before)
 seen-some None = refl
@@ -72,37 +73,37 @@ joined-more first last others =
     ap (λ t. first ++ t) (flat_map-append apart others (last ∷ []) ∙ ap (λ t. flat_map apart others ++ t) (append-nil (apart last)))
     ∙ sym (append_assoc first (flat_map apart others) (apart last))
 
-lines-behind : (rules : Rules) (blocks : List Block) (block : Block)
-    → lines_of_blocks true (blocks ++ block ∷ []) ≡ lines_of_blocks true blocks ++ (gap (is_some (face_behind None (map (judged_block rules) blocks))) ++ lines_of_block block)
-lines-behind rules [] block = append-nil (lines_of_block block)
-lines-behind rules (first ∷ blocks) block =
+lines-beyond : (rules : Rules) (blocks : List Block) (block : Block)
+    → lines_of_blocks true (blocks ++ block ∷ []) ≡ lines_of_blocks true blocks ++ (gap (is_some (face_after None (map (judged_block rules) blocks))) ++ lines_of_block block)
+lines-beyond rules [] block = append-nil (lines_of_block block)
+lines-beyond rules (first ∷ blocks) block =
     ap (joined true) (map-append lines_of_block (first ∷ blocks) (block ∷ []))
     ∙ joined-more (lines_of_block first) (lines_of_block block) (map lines_of_block blocks)
-    ∙ ap (λ some. lines_of_blocks true (first ∷ blocks) ++ (gap some ++ lines_of_block block)) (sym (some-behind (Some (judged_block rules first).face) (map (judged_block rules) blocks) refl))
+    ∙ ap (λ some. lines_of_blocks true (first ∷ blocks) ++ (gap some ++ lines_of_block block)) (sym (some-beyond (Some (judged_block rules first).face) (map (judged_block rules) blocks) refl))
 
 -- a speller with one more block
 
-pub fits-behind : (rules : Rules) (old : code.Speller) (blocks : List Block) (block : Block) → HasSpelled rules old blocks → Ok tt ≡ ok_unless ((judged_block old.rules block).refusal (seen old.before)) → IsSpellable rules (blocks ++ block ∷ [])
-fits-behind rules old blocks block stands fine =
+pub fits-beyond : (rules : Rules) (old : code.Speller) (blocks : List Block) (block : Block) → HasSpelled rules old blocks → Ok tt ≡ ok_unless ((judged_block old.rules block).refusal (seen old.before)) → IsSpellable rules (blocks ++ block ∷ [])
+fits-beyond rules old blocks block stands fine =
     one-more rules blocks block stands.spellable
     (ap (judged_block rules block).refusal (sym stands.last) ∙ ap (λ r. (judged_block r block).refusal (seen old.before)) (sym stands.same_rules) ∙ no-reason ((judged_block old.rules block).refusal (seen old.before)) fine)
 
-pub refused-behind : (rules : Rules) (old : code.Speller) (blocks : List Block) (block : Block) (why : Why) → HasSpelled rules old blocks → Err why ≡ ok_unless ((judged_block old.rules block).refusal (seen old.before)) → Refuses (Unspellable why) rules blocks block
-refused-behind rules old blocks block why stands told =
+pub refused-beyond : (rules : Rules) (old : code.Speller) (blocks : List Block) (block : Block) (why : Why) → HasSpelled rules old blocks → Err why ≡ ok_unless ((judged_block old.rules block).refusal (seen old.before)) → Refuses (Unspellable why) rules blocks block
+refused-beyond rules old blocks block why stands told =
     refuses rules blocks block why stands.spellable (told ∙ ap (λ r. ok_unless ((judged_block r block).refusal (seen old.before))) stands.same_rules ∙ ap (λ f. ok_unless ((judged_block rules block).refusal f)) stands.last)
 
-pub goes-on-behind : (rules : Rules) (old new : code.Speller) (blocks : List Block) (block : Block) → HasSpelled rules old blocks → new.rules ≡ old.rules → Ok tt ≡ ok_unless ((judged_block old.rules block).refusal (seen old.before))
+pub goes-on-beyond : (rules : Rules) (old new : code.Speller) (blocks : List Block) (block : Block) → HasSpelled rules old blocks → new.rules ≡ old.rules → Ok tt ≡ ok_unless ((judged_block old.rules block).refusal (seen old.before))
     → Writes old.source new.source (gap (is_some old.before) ++ lines_of_block block) → seen new.before ≡ Some (judged_block rules block).face → new.failed ≡ false → HasSpelled rules new (blocks ++ block ∷ [])
-goes-on-behind rules old new blocks block stands same fine writes last sound =
+goes-on-beyond rules old new blocks block stands same fine writes last sound =
     let lines = gap (is_some old.before) ++ lines_of_block block in
     let ended : List ℕ → List ℕ = λ line. line ++ 10 ∷ [] in
     let some = seen-some old.before ∙ ap is_some stands.last in
     let spelled : spelling_of (blocks ++ block ∷ []) ≡ spelling_of blocks ++ flat_map ended lines =
-    ap (flat_map ended) (lines-behind rules blocks block ∙ ap (λ s. lines_of_blocks true blocks ++ (gap s ++ lines_of_block block)) (sym some)) ∙ flat_map-append ended (lines_of_blocks true blocks) lines in
+    ap (flat_map ended) (lines-beyond rules blocks block ∙ ap (λ s. lines_of_blocks true blocks ++ (gap s ++ lines_of_block block)) (sym some)) ∙ flat_map-append ended (lines_of_blocks true blocks) lines in
     record {
       same_rules = same ∙ stands.same_rules;
-      spellable = fits-behind rules old blocks block stands fine;
-      spelled = subst (λ t. IsBetween new.source false t [] []) (sym spelled) (written-behind lines old.source new.source (spelling_of blocks) stands.spelled writes);
-      last = last ∙ sym (ap (face_behind None) (map-append (judged_block rules) blocks (block ∷ [])) ∙ face-behind None (map (judged_block rules) blocks) (judged_block rules block));
+      spellable = fits-beyond rules old blocks block stands fine;
+      spelled = subst (λ t. IsBetween new.source false t [] []) (sym spelled) (written-beyond lines old.source new.source (spelling_of blocks) stands.spelled writes);
+      last = last ∙ sym (ap (face_after None) (map-append (judged_block rules) blocks (block ∷ [])) ∙ face-beyond None (map (judged_block rules) blocks) (judged_block rules block));
       fine = sound;
     }

@@ -8,7 +8,8 @@ use Rattle.cm_scan.proofs.lemmas.texts.TrimLemmas.{trimmed}
 use Rattle.cm_scan.specs.Words.{keep_byte, trim_end_by, trim_end_spaces}
 use Rattle.cm_source.specs.declared.source_lines.SourceLines.{SourceLines}
 use Rattle.cm_source.specs.Spelling.{in_front, parted_lines}
-use Rattle.cm_source.specs.steps.WrittenLines.{behind, further_lines, all_lines, next_front, next_begun, StandsAt, IsEnded, IsBetween, Place, IsInside, up_to, lay, Writes, BeginsLine, Ends, Lays, Enters, Leaves}
+use Rattle.cm_source.specs.steps.WrittenLines.{beyond, further_lines, all_lines, next_front, next_begun, Place, IsInside, up_to, lay, Writes, BeginsLine, Ends, Lays, Enters, Leaves}
+use Rattle.cm_source.specs.BetweenLines.{StandsAt, IsEnded, IsBetween}
 use Rattle.cm_source.proofs.lemmas.sources.LineFronts.{seen_view, parted-lines}
 use Rattle.cm_source.proofs.lemmas.sources.LineFronts as parted
 
@@ -16,17 +17,17 @@ use Rattle.cm_source.proofs.lemmas.sources.LineFronts as parted
 pub kept-front : (front rest : List ℕ) (b : ℕ) (bs : List ℕ) → trim_end_spaces rest ≡ b ∷ bs → trim_end_spaces (front ++ rest) ≡ front ++ trim_end_spaces rest
 unfolding trim_end_by
 kept-front [] rest b bs e = refl
-kept-front (c ∷ cs) rest b bs e = ap (keep_byte false c) (kept-front cs rest b bs e) ∙ kept cs
+kept-front (c ∷ cs) rest b bs e = ap (keep_byte (λ c. c == 32) c) (kept-front cs rest b bs e) ∙ kept cs
   where
-    kept : (cs : List ℕ) → keep_byte false c (cs ++ trim_end_spaces rest) ≡ c ∷ (cs ++ trim_end_spaces rest)
-    kept [] = ap (λ t. keep_byte false c t) e ∙ ap (λ t. c ∷ t) (sym e)
+    kept : (cs : List ℕ) → keep_byte (λ c. c == 32) c (cs ++ trim_end_spaces rest) ≡ c ∷ (cs ++ trim_end_spaces rest)
+    kept [] = ap (λ t. keep_byte (λ c. c == 32) c t) e ∙ ap (λ t. c ∷ t) (sym e)
     kept (d ∷ ds) = refl
 
 feed-kept : (rest text : List ℕ) → trim_end_spaces (10 ∷ text) ≡ 10 ∷ trim_end_spaces text
 unfolding trim_end_by
 feed-kept rest text = go (trim_end_spaces text)
   where
-    go : (t : List ℕ) → keep_byte false 10 t ≡ 10 ∷ t
+    go : (t : List ℕ) → keep_byte (λ c. c == 32) 10 t ≡ 10 ∷ t
     go [] = refl
     go (b ∷ bs) = refl
 
@@ -79,7 +80,7 @@ put_front last (line ∷ lines) = (last ++ line) ∷ lines
 
 pub all-alike : (front : List ℕ) (lines : List (List ℕ)) → all_lines front front lines ≡ further_lines front lines
 all-alike front [] = refl
-all-alike front (line ∷ lines) = sym (append_assoc (behind front line) (10 ∷ []) (further_lines front lines))
+all-alike front (line ∷ lines) = sym (append_assoc (beyond front line) (10 ∷ []) (further_lines front lines))
 
 put-nothing : (lines : List (List ℕ)) → put_front [] lines ≡ lines
 put-nothing [] = refl
@@ -88,7 +89,7 @@ put-nothing (line ∷ lines) = refl
 -- where a content leads, once its last line is ended
 pub laid-lines : (front : List ℕ) (place : Place) (content : List ℕ) → up_to (lay front place content) ≡ place.done ++ all_lines place.first front (put_front place.last (parted_lines content))
 unfolding lay parted_lines
-laid-lines front place [] = ap (λ t. place.done ++ behind place.first t ++ 10 ∷ []) (sym (append-nil place.last)) ∙ append_assoc place.done (behind place.first (place.last ++ [])) (10 ∷ [])
+laid-lines front place [] = ap (λ t. place.done ++ beyond place.first t ++ 10 ∷ []) (sym (append-nil place.last)) ∙ append_assoc place.done (beyond place.first (place.last ++ [])) (10 ∷ [])
 laid-lines front place (b ∷ bs) = go (b == 10) (laid-lines front (record { done = up_to place; first = front; last = [] }) bs) (laid-lines front (record place { last = place.last ++ b ∷ [] }) bs)
   where
     broken : Place
@@ -103,9 +104,9 @@ laid-lines front place (b ∷ bs) = go (b == 10) (laid-lines front (record { don
         ≡ place.done ++ all_lines place.first front (put_front place.last (if feed then [] ∷ parted_lines bs else in_front b (parted_lines bs)))
     go true after further =
         after ∙ ap (λ t. up_to place ++ all_lines front front t) (put-nothing (parted_lines bs)) ∙ ap (λ t. up_to place ++ t) (all-alike front (parted_lines bs))
-        ∙ append_assoc (place.done ++ behind place.first place.last) (10 ∷ []) (further_lines front (parted_lines bs))
-        ∙ append_assoc place.done (behind place.first place.last) (10 ∷ further_lines front (parted_lines bs))
-        ∙ ap (λ t. place.done ++ (behind place.first t ++ 10 ∷ further_lines front (parted_lines bs))) (sym (append-nil place.last))
+        ∙ append_assoc (place.done ++ beyond place.first place.last) (10 ∷ []) (further_lines front (parted_lines bs))
+        ∙ append_assoc place.done (beyond place.first place.last) (10 ∷ further_lines front (parted_lines bs))
+        ∙ ap (λ t. place.done ++ (beyond place.first t ++ 10 ∷ further_lines front (parted_lines bs))) (sym (append-nil place.last))
     go false after further =
         let line = seen_view bs in
         let lines = parted.further_lines bs in
@@ -167,9 +168,9 @@ writes-then one two three (line ∷ lines) more writes then_writes begun done fi
     shape : (more : List (List ℕ)) → (done ++ all_lines first front (line ∷ lines)) ++ all_lines front front more ≡ done ++ all_lines first front (line ∷ (lines ++ more))
     shape more =
         append_assoc done (all_lines first front (line ∷ lines)) (all_lines front front more)
-        ∙ ap (λ t. done ++ t) (append_assoc (behind first line) (10 ∷ further_lines front lines) (all_lines front front more)
-        ∙ ap (λ t. behind first line ++ 10 ∷ (further_lines front lines ++ t)) (all-alike front more)
-        ∙ ap (λ t. behind first line ++ 10 ∷ t) (sym (flat_map-append (λ l. behind front l ++ 10 ∷ []) lines more)))
+        ∙ ap (λ t. done ++ t) (append_assoc (beyond first line) (10 ∷ further_lines front lines) (all_lines front front more)
+        ∙ ap (λ t. beyond first line ++ 10 ∷ (further_lines front lines ++ t)) (all-alike front more)
+        ∙ ap (λ t. beyond first line ++ 10 ∷ t) (sym (flat_map-append (λ l. beyond front l ++ 10 ∷ []) lines more)))
 
     go : (more : List (List ℕ)) → IsBetween three (next_begun false more) ((done ++ all_lines first front (line ∷ lines)) ++ all_lines front front more) (next_front front front more) front
         → IsBetween three false (done ++ all_lines first front (line ∷ (lines ++ more))) front front
@@ -199,7 +200,7 @@ ends-line old new text same none place front is = record {
   begun_is = none;
   stands = (pushed place.last is.text text, refl);
   front_is = ap string_bytes same ∙ is.front_is;
-  ended = feed-ended (place.done ++ behind place.first place.last);
+  ended = feed-ended (place.done ++ beyond place.first place.last);
 }
   where
     at : List ℕ
@@ -207,7 +208,7 @@ ends-line old new text same none place front is = record {
 
     pushed : (last : List ℕ) → string_bytes old.text ≡ at ++ last
         → ((old.line ≡ length (string_bytes old.text)) × (string_bytes new.text ≡ trim_end_spaces (string_bytes old.text) ++ 10 ∷ []) ⊎ (old.line ≡ length (string_bytes old.text) → ⊥) × (string_bytes new.text ≡ string_bytes old.text ++ 10 ∷ []))
-        → string_bytes new.text ≡ (place.done ++ behind place.first last) ++ 10 ∷ []
+        → string_bytes new.text ≡ (place.done ++ beyond place.first last) ++ 10 ∷ []
     pushed [] whole (inl (e, f)) = f ∙ ap (λ t. trim_end_spaces t ++ 10 ∷ []) (whole ∙ append-nil at) ∙ ap (λ t. t ++ 10 ∷ []) (is.ended place.first)
     pushed [] whole (inr (e, f)) = absurd (e (is.line ∙ ap length (sym (whole ∙ append-nil at))))
     pushed (b ∷ bs) whole (inl (e, f)) = absurd (omega (arith, e, is.line, ap length whole, length-append at (b ∷ bs)))
@@ -239,9 +240,9 @@ cut-back mid new front done outer further long text same cut is = record {
 pub leaves-begun : (old mid new : SourceLines) (front : ℕ) → old.begun ≡ true → Ends old mid → string_bytes new.text ≡ string_bytes mid.text → new.begun ≡ mid.begun → string_bytes new.front ≡ take front (string_bytes mid.front) → Leaves old new front
 leaves-begun old mid new front some ends text same cut done first outer further [] long is =
     let inside = begun-already old some true (done ++ []) first (outer ++ further) is in
-    let place = ap (λ t. (t ++ behind first []) ++ 10 ∷ []) (append-nil done) ∙ append_assoc done (behind first []) (10 ∷ []) in
+    let place = ap (λ t. (t ++ beyond first []) ++ 10 ∷ []) (append-nil done) ∙ append_assoc done (beyond first []) (10 ∷ []) in
     let after = ends (record { done = done ++ []; first = first; last = [] }) (outer ++ further) inside in
-    cut-back mid new front (done ++ (behind first [] ++ 10 ∷ [])) outer further long text same cut (subst (λ t. IsBetween mid false t (outer ++ further) (outer ++ further)) place after)
+    cut-back mid new front (done ++ (beyond first [] ++ 10 ∷ [])) outer further long text same cut (subst (λ t. IsBetween mid false t (outer ++ further) (outer ++ further)) place after)
 leaves-begun old mid new front some ends text same cut done first outer further (line ∷ lines) long is = absurd (cc (sym some ∙ is.begun_is))
 
 pub leaves-ended : (old new : SourceLines) (front : ℕ) → old.begun ≡ false → string_bytes new.text ≡ string_bytes old.text → new.begun ≡ old.begun → string_bytes new.front ≡ take front (string_bytes old.front) → Leaves old new front

@@ -5,7 +5,7 @@ use Rattle.cm_source.specs.declared.why.Why.{Why}
 use Rattle.cm_source.specs.Answers.{ok_unless}
 use Rattle.cm_source.specs.InlineRefusals.{refused}
 use Rattle.cm_source.specs.Refusals.{list_reasons, judged_block, refusal_of_all, refusal_of_items}
-use Rattle.cm_source.specs.steps.BlockFaces.{seen}
+use Rattle.cm_source.specs.Faces.{seen}
 use Rattle.cm_source.proofs.lemmas.refusals.RefusalLemmas.{stops, goes-on, no-reason, told-error, from-next, from-end}
 use Rattle.cm_source.proofs.lemmas.refusals.BlockRefusals.{seen_items, list-refused}
 use Rattle.cm_source.proofs.refusals.+blocks.Goals as goal

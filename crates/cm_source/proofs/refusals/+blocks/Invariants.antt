@@ -1,6 +1,6 @@
 use Rattle.std.proofs.Common.{◌≡◌, None, drop, map}
 use Rattle.cm_source.specs.Refusals.{judged_block, refusal_of_all, refusal_of_items}
-use Rattle.cm_source.specs.steps.BlockFaces.{seen}
+use Rattle.cm_source.specs.Faces.{seen}
 use Rattle.cm_source.proofs.refusals.+blocks.Given as goal
 
 -- What was taken is refused for no reason, and what is left is for the reason of all.

@@ -16,11 +16,11 @@ returns-in_ok-push_numbered-in-Some c =
     let old = string_bytes c.args.out.now in
     let text = c.args.text.now in
     let last = c.args.last in
-    let behind = c.in-Some.behind.now in
+    let beyond = c.in-Some.beyond.now in
     let found = strip_prefix_char 32 text c.strip_prefix.result c.strip_prefix.ensures.cases (omega arith) in
     let parts = subst (λ (o : Option (Bor (List ℕ))). MatchOption o ((rest : List ℕ) → text ≡ 32 ∷ rest → ⊥) (λ x. text ≡ 32 ∷ x.now)) c.in-Some.is found in
-    let whole = ap (λ first. spelled_text first last text) c.if-not-first.false ∙ ap (spelled_text true last) parts ∙ space-first last behind in
-    then-ok c.push_to_end-in-Some.result (λ is. is ∙ ap (λ t. t ++ spelled_text false last behind) c.in_ok-push_numbered-in-Some.ensures ∙ append_assoc old (numbered 32) (spelled_text false last behind) ∙ ap (λ t. old ++ t) (sym whole)) c.push_to_end-in-Some.ensures
+    let whole = ap (λ first. spelled_text first last text) c.if-not-first.false ∙ ap (spelled_text true last) parts ∙ space-first last beyond in
+    then-ok c.push_to_end-in-Some.result (λ is. is ∙ ap (λ t. t ++ spelled_text false last beyond) c.in_ok-push_numbered-in-Some.ensures ∙ append_assoc old (numbered 32) (spelled_text false last beyond) ∙ ap (λ t. old ++ t) (sym whole)) c.push_to_end-in-Some.ensures
 
 pub returns-in-None : goal.returns-in-None
 returns-in-None c =

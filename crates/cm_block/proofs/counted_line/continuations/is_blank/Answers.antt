@@ -10,4 +10,4 @@ returns-then-begins_plain c =
 
 pub returns : goal.returns
 returns c =
-    c.is_blank_text.ensures ∙ ap is_blank_text c.as_bytes.ensures.value ∙ sym (blank_spaces c.args.line.now.spaces c.args.line.now.rest.now)
+    c.is_blank_text.ensures.blank ∙ ap is_blank_text c.as_bytes.ensures.value ∙ sym (blank_spaces c.args.line.now.spaces c.args.line.now.rest.now)

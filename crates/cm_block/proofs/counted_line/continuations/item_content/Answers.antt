@@ -23,11 +23,11 @@ overflow_add-column-3 c =
 
 pub returns-clause-column : goal.returns-clause-column
 returns-clause-column c =
-    column_is (seen_marker c.args.marker.now) (seen_view c.args.line.now) (seen_view c.with_columns-behind.result) c.indent.result c.content_offset-offset.result
-    (c.with_columns-behind.ensures ∙ c.behind_marker.ensures) c.indent.ensures c.content_offset-offset.ensures.value
+    column_is (seen_marker c.args.marker.now) (seen_view c.args.line.now) (seen_view c.with_columns-beyond.result) c.indent.result c.content_offset-offset.result
+    (c.with_columns-beyond.ensures ∙ c.after_marker.ensures) c.indent.ensures c.content_offset-offset.ensures.value
 
 pub returns-clause-first : goal.returns-clause-first
 returns-clause-first c =
     c.strip.ensures.line
-    ∙ first_is_content (seen_marker c.args.marker.now) (seen_view c.args.line.now) (seen_view c.with_columns-behind.result) c.content_offset-offset.result
-    (c.with_columns-behind.ensures ∙ c.behind_marker.ensures) c.content_offset-offset.ensures.value
+    ∙ first_is_content (seen_marker c.args.marker.now) (seen_view c.args.line.now) (seen_view c.with_columns-beyond.result) c.content_offset-offset.result
+    (c.with_columns-beyond.ensures ∙ c.after_marker.ensures) c.content_offset-offset.ensures.value

@@ -5,7 +5,7 @@ use Rattle.cm_scan.specs.Words.{begins_with, given}
 use Rattle.cm_block.specs.steps.ContinuationViews.{begins_quote}
 use Rattle.cm_block.proofs.lemmas.StartLemmas.{starts_lazy, starts_code, starts_near, content_left, is_there, is_not_there}
 use Rattle.cm_block.proofs.lemmas.MarkerPlaces.{no_quote, a-quote, quote_plain}
-use Rattle.cm_block.proofs.lemmas.ContinuationLemmas.{past_content, behind_quote}
+use Rattle.cm_block.proofs.lemmas.ContinuationLemmas.{past_content, after_quote}
 use Rattle.cm_block.proofs.counted_line.continuations.quote_content.Goals.{After-strip}
 use Rattle.cm_block.proofs.counted_line.continuations.quote_content.Goals as goal
 
@@ -49,7 +49,7 @@ returns c by =
     let none = c.strip.ensures.bare (omega (arith, c.indent_of-indent.ensures)) in
     let at = (goal.at.returns c).After-strip in
     let start = starts_near by line c.indent_of-indent.result c.strip.result c.if-line.false c.indent_of-indent.ensures (omega (arith, c.if-indent-ge4.false)) c.strip.ensures.line none in
-    let behind = c.past.ensures ∙ past_content line c.indent_of-indent.result 1 c.strip.result c.indent_of-indent.ensures c.strip.ensures.line none in (
+    let beyond = c.past.ensures ∙ past_content line c.indent_of-indent.result 1 c.strip.result c.indent_of-indent.ensures c.strip.ensures.line none in (
       sym start ∙ a-quote by c.strip.result.rest.now (ap (begins_with 62) (sym (left at)) ∙ there at),
-      behind_quote line (seen_view c.strip-2.result) c.past.result behind c.strip-2.ensures.line,
+      after_quote line (seen_view c.strip-2.result) c.past.result beyond c.strip-2.ensures.line,
     )

@@ -1,7 +1,7 @@
 use Rattle.std.proofs.Common.{ap, suc, ◌∙◌}
 use Rattle.std.proofs.lemmas.Result.{on_ok_weaker}
 use Rattle.cm_scan.specs.blocks.Blocks.{line_feeds}
-use Rattle.cm_block.proofs.lemmas.FeedLemmas.{feeds_behind, feeds_ended}
+use Rattle.cm_block.proofs.lemmas.FeedLemmas.{feeds_after, feeds_ended}
 use Rattle.cm_block.proofs.counted_line.copies.push_whole_line.Goals as goal
 
 pub returns-clause-feeds : goal.returns-clause-feeds
@@ -11,4 +11,4 @@ returns-clause-feeds c =
     ap line_feeds ended
     ∙ feeds_ended c.push_line.new.text
     ∙ ap (λ t. suc (line_feeds t)) c.in_ok-push_line.ensures
-    ∙ ap suc (feeds_behind c.args.text.now line.spaces line.rest.now line.one_line)) c.end_line.ensures
+    ∙ ap suc (feeds_after c.args.text.now line.spaces line.rest.now line.one_line)) c.end_line.ensures

@@ -4,7 +4,7 @@ use Rattle.cm_text.specs.Views.{seen_view}
 use Rattle.cm_scan.specs.blocks.Lines.{with_ending}
 use Rattle.cm_scan.specs.blocks.Blocks.{line_feeds}
 use Rattle.cm_block.proofs.lemmas.ContinuationLemmas.{taken_goes_on, blank_inside, near_inside, far_inside}
-use Rattle.cm_block.proofs.lemmas.FeedLemmas.{feeds_behind}
+use Rattle.cm_block.proofs.lemmas.FeedLemmas.{feeds_after}
 use Rattle.cm_block.proofs.lemmas.LeafLemmas.{waits, no_code, goes_on}
 use Rattle.cm_block.proofs.counted_line.copies.take_code_line.Goals as goal
 
@@ -40,4 +40,4 @@ returns-clause-taken c by =
     (far_inside 4 line (seen_view inner) is (omega (arith, c.if-inner-line-lt4.false)))
     (c.in_ok-push_line.ensures ∙ ap₂ (λ t (l : LineView). t ++ l.text) front is)
     (ap line_feeds (c.in_ok-push_line.ensures ∙ ap (λ t. t ++ (seen_view inner).text) front)
-    ∙ feeds_behind ((text ++ 10 ∷ []) ++ blanks) inner.spaces inner.rest.now inner.one_line))
+    ∙ feeds_after ((text ++ 10 ∷ []) ++ blanks) inner.spaces inner.rest.now inner.one_line))

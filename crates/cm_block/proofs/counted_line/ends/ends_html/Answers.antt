@@ -9,4 +9,4 @@ returns-then-ends_at_blank_line c =
     no_html_end (kind_of c.args.kind) (seen_view c.args.line.now).text (sym c.ends_at_blank_line.ensures ∙ c.if-ends_at_blank_line.true)
 
 pub returns : goal.returns
-returns c = c.is_some.ensures ∙ html_ends (kind_of c.args.kind) c.args.line.now.spaces c.args.line.now.rest.now c.html_end.result _ c.html_end.ensures
+returns c = c.is_some.ensures ∙ html_ends (kind_of c.args.kind) c.args.line.now.spaces c.args.line.now.rest.now c.html_end.result _ c.html_end.ensures.end

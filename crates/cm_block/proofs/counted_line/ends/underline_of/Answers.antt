@@ -16,8 +16,8 @@ returns-then-indent_of-gt3 c = underline_far (seen_view c.args.line.now) (omega 
 pub returns-in_err-level : goal.returns-in_err-level
 returns-in_err-level c =
     c.from_residual.ensures
-    ∙ underline_none (seen_view c.args.line.now) c.content.result.now _ c.if-line.false (omega (arith, c.indent_of.ensures, c.if-indent_of-gt3.false)) c.content.ensures.content c.in_err-level.ensures
+    ∙ underline_none (seen_view c.args.line.now) c.content.result.now _ c.if-line.false (omega (arith, c.indent_of.ensures, c.if-indent_of-gt3.false)) c.content.ensures.content c.in_err-level.ensures.underline
 
 pub returns : goal.returns
 returns c =
-    underline_some (seen_view c.args.line.now) c.content.result.now _ c.in_ok-level.level _ c.if-line.false (omega (arith, c.indent_of.ensures, c.if-indent_of-gt3.false)) c.content.ensures.content c.in_ok-level.ensures
+    underline_some (seen_view c.args.line.now) c.content.result.now _ c.in_ok-level.level _ c.if-line.false (omega (arith, c.indent_of.ensures, c.if-indent_of-gt3.false)) c.content.ensures.content c.in_ok-level.ensures.underline

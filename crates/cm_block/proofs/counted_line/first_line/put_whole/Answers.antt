@@ -21,6 +21,7 @@ returns-in_default c =
       owners = none_owns owned ∙ ap (λ x. own_leaves owned (of_one_line x)) (sym none);
       kept = λ e. refl;
       unowned = λ e. refl;
+      counted = c.requires.counted;
     }
 
 pub returns-clause-put : goal.returns-clause-put
@@ -34,4 +35,4 @@ returns-clause-level c =
 pub returns-clause-owners : goal.returns-clause-owners
 returns-clause-owners c =
     let is = ap (option_map block_of) (sym c.in-Some.is) ∙ c.whole_leaf.ensures in
-    c.in_ok-leaf.ensures ∙ whole_owns (seen c.args.start.now) (block_of c.in-Some.leaf) is c.args.owners.now
+    c.in_ok-leaf.ensures.owned ∙ whole_owns (seen c.args.start.now) (block_of c.in-Some.leaf) is c.args.owners.now

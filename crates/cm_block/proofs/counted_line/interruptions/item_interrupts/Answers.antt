@@ -6,6 +6,6 @@ use Rattle.cm_block.proofs.counted_line.interruptions.item_interrupts.Goals as g
 
 pub returns-then-starts_at_one : goal.returns-then-starts_at_one
 returns-then-starts_at_one c =
-    ap not c.is_blank_behind.ensures
+    ap not c.is_blank_after.ensures
     ∙ item_interrupts (record { kind = c.args.marker.kind; digits = c.args.marker.digits }) (seen_view c.args.line.now) c.as_bytes.result.now
     (c.as_bytes.ensures.value ∙ c.content.ensures.content) (sym c.starts_at_one.ensures ∙ c.if-starts_at_one.true)

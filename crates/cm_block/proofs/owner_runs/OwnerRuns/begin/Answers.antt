@@ -9,32 +9,35 @@ pub invariant_of-self-2 : goal.invariant_of-self-2
 invariant_of-self-2 c =
     let was = c.self.inside in
     let kept = c.self.invariant in
+    let leaves = leaves_with (leaves_in 0 was.closed.items) was.last.owner in
     let next : OwnerRun = record { owner = c.args.owner; blanks = 0; lines = c.args.lines } in
     let items = c.in_ok-push.ensures.items in
     let before = owners_in was.closed.items was.last in
-    let more = owners_of_run was.leaves next in
+    let more = owners_of_run leaves next in
     let whole : owners_in c.push.new.self.items next ≡ before ++ more =
-    ap (λ xs. owners_in xs next) items ∙ next_run was.closed.items was.last next was.leaves kept.2 in
+    ap (λ xs. owners_in xs next) items ∙ next_run was.closed.items was.last next leaves refl in
     let longer : length (owners_in c.push.new.self.items next) ≡ length before + c.args.lines =
     ap length whole ∙ length-append before more
-    ∙ ap (λ n. length before + n) (ap length (run_alone was.leaves next refl) ∙ length-replicate c.args.lines (owner_of (leaves_with was.leaves c.args.owner) c.args.owner)) in
-    let leaves : c.leaves_with-self-inside.result ≡ leaves_with (leaves_in 0 c.push.new.self.items) c.args.owner =
-    c.leaves_with-self-inside.ensures
-    ∙ leaves_begun was.closed.items was.last next was.leaves kept.2
+    ∙ ap (λ n. length before + n) (ap length (run_alone leaves next refl) ∙ length-replicate c.args.lines (owner_of (leaves_with leaves c.args.owner) c.args.owner)) in
+    let more_leaves : leaves_with leaves c.args.owner ≡ leaves_with (leaves_in 0 c.push.new.self.items) c.args.owner =
+    leaves_begun was.closed.items was.last next leaves refl
     ∙ ap (λ xs. leaves_with (leaves_in 0 xs) c.args.owner) (sym items) in
     let runs : length c.push.new.self.items ≡ length was.closed.items + 1 = ap length items ∙ length-append was.closed.items (was.last ∷ []) in
-    let few : c.leaves_with-self-inside.result ≤ length c.push.new.self.items =
-    omega (arith, c.leaves_with-self-inside.ensures, at_most_one was.leaves c.args.owner, runs, kept.3) in
-    (omega (arith, longer, kept.0), omega (arith, longer, runs, kept.0, kept.1, kept.4, kept.5, c.requires), leaves, few, c.requires, omega arith)
+    let few : leaves_with (leaves_in 0 c.push.new.self.items) c.args.owner ≤ length c.push.new.self.items =
+    omega (arith, more_leaves, at_most_one leaves c.args.owner, runs, kept.2) in
+    (omega (arith, longer, kept.0), omega (arith, longer, runs, kept.0, kept.1, kept.3, kept.4, c.requires), few, c.requires, omega arith)
 
-pub returns : goal.returns
-returns c =
+pub returns-clause-pushed : goal.returns-clause-pushed
+returns-clause-pushed c =
     let was = c.self.inside in
-    let kept = c.self.invariant in
+    let leaves = leaves_with (leaves_in 0 was.closed.items) was.last.owner in
     let next : OwnerRun = record { owner = c.args.owner; blanks = 0; lines = c.args.lines } in
+    let items = c.in_ok-push.ensures.items in
     ap₂ (λ xs n. record { owners = xs; leaves = n })
-    (ap (λ xs. owners_in xs next) c.in_ok-push.ensures.items
-    ∙ next_run was.closed.items was.last next was.leaves kept.2
+    (ap (λ xs. owners_in xs next) items
+    ∙ next_run was.closed.items was.last next leaves refl
     ∙ ap (λ (o : OwnedLines). o.owners ++ owners_of_run o.leaves next) c.self.view_is
     ∙ ap (λ xs. c.args.self.now.owners ++ xs) (run_alone c.args.self.now.leaves next refl))
-    (c.leaves_with-self-inside.ensures ∙ ap (λ (o : OwnedLines). leaves_with o.leaves c.args.owner) c.self.view_is)
+    (ap (λ xs. leaves_with (leaves_in 0 xs) c.args.owner) items
+    ∙ sym (leaves_begun was.closed.items was.last next leaves refl)
+    ∙ ap (λ (o : OwnedLines). leaves_with o.leaves c.args.owner) c.self.view_is)

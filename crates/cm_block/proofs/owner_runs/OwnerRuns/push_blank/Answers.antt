@@ -4,8 +4,8 @@ use Rattle.cm_block.specs.Stack.{blank_owner}
 use Rattle.cm_block.proofs.lemmas.OwnerRunLemmas.{longer_run, more_blanks}
 use Rattle.cm_block.proofs.owner_runs.OwnerRuns.push_blank.Goals as goal
 
-pub returns-then-lines-self : goal.returns-then-lines-self
-returns-then-lines-self c =
+pub returns-then-lines-self-clause-pushed : goal.returns-then-lines-self-clause-pushed
+returns-then-lines-self-clause-pushed c =
     let was = c.self.inside in
     let same : c.blank_run-owner.result ≡ was.last.owner = search rules in
     let none : was.last.blanks ≡ 0 = search rules in
@@ -16,8 +16,8 @@ returns-then-lines-self c =
     ∙ ap (λ (o : OwnedLines). o.owners ++ replicate c.args.lines (blank_owner c.args.marked)) c.self.view_is)
     (ap (λ (o : OwnedLines). o.leaves) c.self.view_is)
 
-pub returns-then-lines-self-2 : goal.returns-then-lines-self-2
-returns-then-lines-self-2 c =
+pub returns-then-lines-self-2-clause-pushed : goal.returns-then-lines-self-2-clause-pushed
+returns-then-lines-self-2-clause-pushed c =
     let was = c.self.inside in
     let unmarked : c.args.marked ≡ false = search rules in
     ap₂ (λ xs n. record { owners = xs; leaves = n })

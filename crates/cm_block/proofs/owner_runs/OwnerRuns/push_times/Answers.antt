@@ -12,9 +12,9 @@ loop-left-preserved c =
     ap (λ n. leaves_with n c.args.owner) before.invariant.leaves ∙ c.requires in
     record {
       owners =
-          ap (λ (o : OwnedLines). o.owners ++ replicate (before.left - lines) owner) c.in_ok-begin.ensures
+          ap (λ (o : OwnedLines). o.owners ++ replicate (before.left - lines) owner) c.in_ok-begin.ensures.pushed
           ∙ ap (λ n. (before.self.owners ++ replicate lines (owner_of n c.args.owner)) ++ replicate (before.left - lines) owner) same
           ∙ in_parts before.self.owners owner lines before.left (omega (arith, c.min-lines.ensures))
           ∙ before.invariant.owners;
-      leaves = ap (λ (o : OwnedLines). o.leaves) c.in_ok-begin.ensures ∙ same;
+      leaves = ap (λ (o : OwnedLines). o.leaves) c.in_ok-begin.ensures.pushed ∙ same;
     }

@@ -20,7 +20,7 @@ returns-in_ok-blank_lines-clause-owners c =
     let s = c.args.self.now in
     owners_with_blanks (leaf_of s.leaf) (leaves_with Plain s.leaf) c.blank_lines-blank_lines.result
     (closes s.leaf) c.blank_lines-blank_lines.ensures
-    (quoted_by false s.stack.frames) c.is_quoted.result s.owners c.close.new.owners c.blank_lines.new.self c.in_ok-blank_lines.ensures
+    (quoted_by false s.stack.frames) c.is_quoted.result s.owners c.close.new.owners c.blank_lines.new.self c.in_ok-blank_lines.ensures.owned
     (c.is_quoted.ensures ∙ ap (quoted_by false) (c.push_blank.ensures.frames ∙ c.in_ok-close.ensures.frames)) c.in_ok-close.ensures.owners
 
 pub returns-else-blank_lines-gt0-clause-level : goal.returns-else-blank_lines-gt0-clause-level

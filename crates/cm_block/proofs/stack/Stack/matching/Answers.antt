@@ -4,7 +4,7 @@ use Rattle.cm_block.specs.Frames.{Row}
 use Rattle.cm_block.specs.steps.FrameSteps.{matching}
 use Rattle.cm_block.specs.steps.FrameViews.{frames_in}
 use Rattle.cm_block.proofs.lemmas.EmptyLines.{matches_all}
-use Rattle.cm_block.proofs.lemmas.FrontLemmas.{matching-behind}
+use Rattle.cm_block.proofs.lemmas.FrontLemmas.{matching-beyond}
 use Rattle.cm_block.proofs.stack.Stack.matching.Goals as goal
 
 pub returns-then-not-is_bare-clause-line : goal.returns-then-not-is_bare-clause-line
@@ -20,5 +20,5 @@ pub returns-clause-line : goal.returns-clause-line
 returns-clause-line c =
     c.matching.ensures.line c.self.inside.raw
     ∙ ap (λ fs. matching c.args.rules c.self.inside.bare c.args.open_text (frames_in c.self.inside.raw fs) (seen_view c.args.line.now.rest)) c.as_slice.ensures.value
-    ∙ sym (matching-behind c.self.inside.chunks c.args.rules c.self.inside.bare c.args.open_text (frames_in c.self.inside.raw c.self.inside.frames.items) (seen_view c.args.line.now.rest))
+    ∙ sym (matching-beyond c.self.inside.chunks c.args.rules c.self.inside.bare c.args.open_text (frames_in c.self.inside.raw c.self.inside.frames.items) (seen_view c.args.line.now.rest))
     ∙ ap (λ (r : Row). matching c.args.rules r.bare c.args.open_text r.frames (seen_view c.args.line.now.rest)) c.self.view_is

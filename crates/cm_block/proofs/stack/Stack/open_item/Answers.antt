@@ -5,7 +5,7 @@ use Rattle.cm_block.specs.Frames.{an_item, Row}
 use Rattle.cm_block.proofs.lemmas.LevelViewLemmas.{frames-placed-grow}
 use Rattle.cm_block.proofs.lemmas.RowLemmas.{frames-open, inner-done}
 use Rattle.cm_block.proofs.lemmas.FrameStartLemmas.{frame}
-use Rattle.cm_block.proofs.lemmas.FrontLemmas.{item-opens-behind}
+use Rattle.cm_block.proofs.lemmas.FrontLemmas.{item-opens-beyond}
 use Rattle.cm_block.proofs.stack.Stack.open_item.Goals as goal
 
 pub invariant_of-self : goal.invariant_of-self
@@ -24,5 +24,5 @@ returns-clause-frames c = on_ok_weaker c.open.result (λ h.
     frames-open inside.chunks inside.raw c.open_item.new.raw inside.frames.items inside.level c.in_ok-open_item.ensures.grows c.self.invariant before.frames c.open.new.self.frames _ _ container
     (ap (λ (r : Row). r.frames) c.self.view_is)
     (inner-done inside.chunks inside.raw c.open_item.new.raw inside.frames.items inside.level c.in_ok-open_item.ensures.grows c.self.invariant c.open_item.new.self before.level (λ l. item_opens l c.args.kind)
-    (item-opens-behind inside.chunks c.args.kind) (ap (λ (r : Row). r.level) c.self.view_is) c.in_ok-open_item.ensures.level) h
+    (item-opens-beyond inside.chunks c.args.kind) (ap (λ (r : Row). r.level) c.self.view_is) c.in_ok-open_item.ensures.level) h
     ∙ ap₂ (λ fs level. fs ++ frame level container ∷ []) c.begin_list.ensures.frames c.in_ok-begin_list.ensures.level) c.open.ensures.frames

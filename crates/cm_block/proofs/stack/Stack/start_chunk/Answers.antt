@@ -6,7 +6,7 @@ use Rattle.cm_tree.specs.declared.raw_blocks.RawBlock.{RawBlock}
 use Rattle.cm_tree.specs.RawBlocks.{blocks_in}
 use Rattle.cm_block.specs.Frames.{Row}
 use Rattle.cm_block.specs.steps.FrameViews.{frames_in}
-use Rattle.cm_block.specs.steps.FrontViews.{frames_behind}
+use Rattle.cm_block.specs.steps.FrontViews.{frames_after}
 use Rattle.cm_block.proofs.lemmas.RowLemmas.{no-frames, no-list, none-placed, shrunk-placed, finished}
 use Rattle.cm_block.proofs.stack.Stack.start_chunk.Goals as goal
 
@@ -37,6 +37,6 @@ returns-clause-same c = on_ok_weaker c.push.result (λ h.
 
 pub returns-clause-frames : goal.returns-clause-frames
 returns-clause-frames c =
-    ap (λ fs. frames_behind c.push.new.self (frames_in c.replace-raw.new.dest fs)) (no-frame c)
-    ∙ sym (ap (λ fs. frames_behind c.self.inside.chunks (frames_in c.self.inside.raw fs)) (no-frame c))
+    ap (λ fs. frames_after c.push.new.self (frames_in c.replace-raw.new.dest fs)) (no-frame c)
+    ∙ sym (ap (λ fs. frames_after c.self.inside.chunks (frames_in c.self.inside.raw fs)) (no-frame c))
     ∙ ap (λ (r : Row). r.frames) c.self.view_is

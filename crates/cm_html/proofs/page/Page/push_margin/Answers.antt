@@ -1,5 +1,5 @@
 use Rattle.cm_html.specs.Listing.{margin}
-use Rattle.cm_html.proofs.lemmas.PageLemmas.{settled_in_order, settled_behind}
+use Rattle.cm_html.proofs.lemmas.PageLemmas.{settled_in_order, settled_beyond}
 use Rattle.cm_html.proofs.page.Page.push_margin.Goals as goal
 
 pub invariant_of-self : goal.invariant_of-self
@@ -9,6 +9,6 @@ invariant_of-self c =
 
 pub returns-clause-written : goal.returns-clause-written
 returns-clause-written c =
-    settled_behind c.self.inside.text c.push_margin-pushed.new.out (margin c.args.depth) c.self.inside.insertions.items c.self.invariant
+    settled_beyond c.self.inside.text c.push_margin-pushed.new.out (margin c.args.depth) c.self.inside.insertions.items c.self.invariant
     c.push_margin-pushed.result c.settled.result c.settled.new.insertions.items c.settled.ensures.same c.push_margin-pushed.ensures.written c.settled.ensures.ok
     c.args.self.now c.self.view_is

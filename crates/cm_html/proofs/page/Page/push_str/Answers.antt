@@ -1,4 +1,4 @@
-use Rattle.cm_html.proofs.lemmas.PageLemmas.{pushed_in_order, pushed_behind}
+use Rattle.cm_html.proofs.lemmas.PageLemmas.{pushed_in_order, pushed_beyond}
 use Rattle.cm_html.proofs.page.Page.push_str.Goals as goal
 
 pub invariant_of-self : goal.invariant_of-self
@@ -7,5 +7,5 @@ invariant_of-self c =
 
 pub returns : goal.returns
 returns c =
-    pushed_behind c.self.inside.text c.push_str.new.self c.args.more.now c.self.inside.insertions.items c.self.invariant c.push_str.result c.push_str.ensures.bytes
+    pushed_beyond c.self.inside.text c.push_str.new.self c.args.more.now c.self.inside.insertions.items c.self.invariant c.push_str.result c.push_str.ensures.bytes
     c.args.self.now c.self.view_is

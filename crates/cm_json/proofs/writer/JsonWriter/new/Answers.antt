@@ -1,6 +1,7 @@
 use Rattle.std.proofs.Common.{◌++◌, false, codes, map, ap, sym, ◌∙◌, append_assoc}
 use Rattle.cm_json.specs.Mdast.{placed, all_placed, value_of}
-use Rattle.cm_json.specs.steps.Texts.{items_text, root_front}
+use Rattle.cm_json.specs.steps.Texts.{root_front}
+use Rattle.cm_json.specs.Printing.{items_text}
 use Rattle.cm_json.proofs.lemmas.LeafTexts.{root-written}
 use Rattle.cm_json.proofs.lemmas.Printed.{printed}
 use Rattle.cm_json.proofs.writer.JsonWriter.new.Goals as goal

@@ -1,17 +1,18 @@
 use Rattle.std.proofs.Common.{Bool, ◌||◌, ◌+◌, List, map, drop, sym, ap, ◌∙◌}
 use Rattle.cm_tree.specs.declared.tree.Inline.{Inline}
 use Rattle.cm_source.specs.InlineRefusals.{Judged, judged, hold_emphasis}
-use Rattle.cm_source.proofs.lemmas.shared.InlineKinds.{link-judged, image-judged}
 use Rattle.cm_source.proofs.lemmas.refusals.RefusalLemmas.{from-next, from-end}
+use Rattle.cm_tree.proofs.lemmas.InlineFolds as inline_fold
+use Rattle.cm_source.specs.InlineRefusals as refusals
 use Rattle.cm_source.proofs.inline_refusals.emphasis.+emphasis.Goals as goal
 
 pub has_emphasis-returns-in-Link : goal.has_emphasis-returns-in-Link
 has_emphasis-returns-in-Link t c = λ rules.
-    c.hold_emphasis.ensures rules ∙ ap (λ l. hold_emphasis (map (judged rules) l)) c.as_slice.ensures ∙ sym (ap (λ (j : Judged). j.has_emphasis) (ap (judged rules) c.in-Link.is ∙ link-judged rules c.in-Link.dest c.in-Link.title c.in-Link.content))
+    c.hold_emphasis.ensures rules ∙ ap (λ l. hold_emphasis (map (judged rules) l)) c.as_slice.ensures ∙ sym (ap (λ (j : Judged). j.has_emphasis) (ap (judged rules) c.in-Link.is ∙ inline_fold.link (refusals.inline_step rules) c.in-Link.dest c.in-Link.title c.in-Link.content))
 
 pub has_emphasis-returns-in-Image : goal.has_emphasis-returns-in-Image
 has_emphasis-returns-in-Image t c = λ rules.
-    c.hold_emphasis-in-Image.ensures rules ∙ ap (λ l. hold_emphasis (map (judged rules) l)) c.as_slice-in-Image.ensures ∙ sym (ap (λ (j : Judged). j.has_emphasis) (ap (judged rules) c.in-Image.is ∙ image-judged rules c.in-Image.dest c.in-Image.title c.in-Image.content))
+    c.hold_emphasis-in-Image.ensures rules ∙ ap (λ l. hold_emphasis (map (judged rules) l)) c.as_slice-in-Image.ensures ∙ sym (ap (λ (j : Judged). j.has_emphasis) (ap (judged rules) c.in-Image.is ∙ inline_fold.image (refusals.inline_step rules) c.in-Image.dest c.in-Image.title c.in-Image.content))
 
 pub hold_emphasis-loop-inline-preserved : goal.hold_emphasis-loop-inline-preserved
 hold_emphasis-loop-inline-preserved t c = λ rules.

@@ -21,7 +21,7 @@ returns-else-is_wrong_edge c =
     let inside = c.first_of-first.ensures ∙ ap first_of (c.first_face.ensures rules) in
     let one = c.is_wrong_edge.ensures ∙ ap (λ o. is_wrong rules o c.first_of-first.result) c.last_of.ensures ∙ ap (is_wrong rules (last_of (seen c.args.before))) inside in
     let content = map (judged rules) c.args.content.now in
-    let behind = c.last_of-last.ensures ∙ ap last_of (c.last_face.ensures rules) in
-    let other = c.is_wrong_edge-else-is_wrong_edge.ensures ∙ ap (λ o. is_wrong rules o c.last_of-last.result) c.first_of.ensures ∙ ap (is_wrong rules (first_of (seen c.args.after))) behind in
+    let beyond = c.last_of-last.ensures ∙ ap last_of (c.last_face.ensures rules) in
+    let other = c.is_wrong_edge-else-is_wrong_edge.ensures ∙ ap (λ o. is_wrong rules o c.last_of-last.result) c.first_of.ensures ∙ ap (is_wrong rules (first_of (seen c.args.after))) beyond in
     sym (ap (λ v. v || c.is_wrong_edge-else-is_wrong_edge.result) c.if-is_wrong_edge.false)
     ∙ edges rules (seen c.args.before) content (seen c.args.after) c.is_wrong_edge.result c.is_wrong_edge-else-is_wrong_edge.result (some-face rules c.args.content.now (sym c.is_empty.ensures ∙ c.if-is_empty.false)) one other

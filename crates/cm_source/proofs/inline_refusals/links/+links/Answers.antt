@@ -1,25 +1,26 @@
 use Rattle.std.proofs.Common.{Bool, ◌||◌, ◌+◌, List, map, drop, sym, ap, ◌∙◌}
 use Rattle.cm_tree.specs.declared.tree.Inline.{Inline}
 use Rattle.cm_source.specs.InlineRefusals.{Judged, judged, hold_link}
-use Rattle.cm_source.proofs.lemmas.shared.InlineKinds.{emph-judged, strong-judged, strike-judged, image-judged}
 use Rattle.cm_source.proofs.lemmas.refusals.RefusalLemmas.{from-next, from-end}
+use Rattle.cm_tree.proofs.lemmas.InlineFolds as inline_fold
+use Rattle.cm_source.specs.InlineRefusals as refusals
 use Rattle.cm_source.proofs.inline_refusals.links.+links.Goals as goal
 
 pub has_link-returns-in-Emph : goal.has_link-returns-in-Emph
 has_link-returns-in-Emph t c = λ rules.
-    c.hold_link.ensures rules ∙ ap (λ l. hold_link (map (judged rules) l)) c.as_slice.ensures ∙ sym (ap (λ (j : Judged). j.has_link) (ap (judged rules) c.in-Emph.is ∙ emph-judged rules c.in-Emph.content))
+    c.hold_link.ensures rules ∙ ap (λ l. hold_link (map (judged rules) l)) c.as_slice.ensures ∙ sym (ap (λ (j : Judged). j.has_link) (ap (judged rules) c.in-Emph.is ∙ inline_fold.emph (refusals.inline_step rules) c.in-Emph.content))
 
 pub has_link-returns-in-Strong : goal.has_link-returns-in-Strong
 has_link-returns-in-Strong t c = λ rules.
-    c.hold_link-in-Strong.ensures rules ∙ ap (λ l. hold_link (map (judged rules) l)) c.as_slice-in-Strong.ensures ∙ sym (ap (λ (j : Judged). j.has_link) (ap (judged rules) c.in-Strong.is ∙ strong-judged rules c.in-Strong.content))
+    c.hold_link-in-Strong.ensures rules ∙ ap (λ l. hold_link (map (judged rules) l)) c.as_slice-in-Strong.ensures ∙ sym (ap (λ (j : Judged). j.has_link) (ap (judged rules) c.in-Strong.is ∙ inline_fold.strong (refusals.inline_step rules) c.in-Strong.content))
 
 pub has_link-returns-in-Strike : goal.has_link-returns-in-Strike
 has_link-returns-in-Strike t c = λ rules.
-    c.hold_link-in-Strike.ensures rules ∙ ap (λ l. hold_link (map (judged rules) l)) c.as_slice-in-Strike.ensures ∙ sym (ap (λ (j : Judged). j.has_link) (ap (judged rules) c.in-Strike.is ∙ strike-judged rules c.in-Strike.content))
+    c.hold_link-in-Strike.ensures rules ∙ ap (λ l. hold_link (map (judged rules) l)) c.as_slice-in-Strike.ensures ∙ sym (ap (λ (j : Judged). j.has_link) (ap (judged rules) c.in-Strike.is ∙ inline_fold.strike (refusals.inline_step rules) c.in-Strike.content))
 
 pub has_link-returns-in-Image : goal.has_link-returns-in-Image
 has_link-returns-in-Image t c = λ rules.
-    c.hold_link-in-Image.ensures rules ∙ ap (λ l. hold_link (map (judged rules) l)) c.as_slice-in-Image.ensures ∙ sym (ap (λ (j : Judged). j.has_link) (ap (judged rules) c.in-Image.is ∙ image-judged rules c.in-Image.dest c.in-Image.title c.in-Image.content))
+    c.hold_link-in-Image.ensures rules ∙ ap (λ l. hold_link (map (judged rules) l)) c.as_slice-in-Image.ensures ∙ sym (ap (λ (j : Judged). j.has_link) (ap (judged rules) c.in-Image.is ∙ inline_fold.image (refusals.inline_step rules) c.in-Image.dest c.in-Image.title c.in-Image.content))
 
 pub hold_link-loop-inline-preserved : goal.hold_link-loop-inline-preserved
 hold_link-loop-inline-preserved t c = λ rules.

@@ -26,4 +26,4 @@ returns c =
     let off = (not (is_followed c.args.rules c.args.dest.now), AddressOff) ∷ [] in
     next-reason _ (has_nul c.args.dest.now || has_nul c.args.title.now) Nul ((hold_link content, LinkInLink) ∷ off) _ c.in_ok-refuse_if.ensures c.has_nul_in.ensures
     (next-reason _ (hold_link content) LinkInLink off _ c.in_ok-refuse_if-2.ensures (c.hold_link.ensures c.args.rules)
-    (last-reason _ (not (is_followed c.args.rules c.args.dest.now)) AddressOff _ c.refuse_if-3.ensures (ap not c.is_followed.ensures)))
+    (last-reason _ (not (is_followed c.args.rules c.args.dest.now)) AddressOff _ c.refuse_if-3.ensures (ap not c.is_followed.ensures.followed)))

@@ -4,4 +4,4 @@ use Rattle.cm_source.proofs.lemmas.spelling.SearchLemmas.{found-any}
 use Rattle.cm_source.proofs.inline_refusals.texts.has_nul.Goals as goal
 
 pub returns : goal.returns
-returns c = grind (arith, common_steps, c.next_of.ensures, found-any (λ b. b == 0) c.args.text.now)
+returns c = grind (arith, common_steps, c.next_of.ensures.next, found-any (λ b. b == 0) c.args.text.now)

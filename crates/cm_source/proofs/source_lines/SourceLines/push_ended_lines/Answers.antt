@@ -24,12 +24,12 @@ loop-at-preserved c =
     let found : position (λ b. b == 10) c.loop-at.rest.now ≡ Some c.in-Some.at = cc in
     let rest = c.loop-at.rest.now in
     let line = take c.in-Some.at rest in
-    let behind = drop (c.in-Some.at + 1) rest in
+    let beyond = drop (c.in-Some.at + 1) rest in
     let done = c.loop-at.invariant.1 in
     let at = feed-at rest c.in-Some.at found in (
       c.cut_at.ensures.after_utf8,
       done ++ line ∷ [],
-      c.loop-at.invariant.2 ∙ ap (λ t. done ++ t) (ap ended_lines at.1 ∙ ended-first line behind at.0) ∙ sym (append_assoc done (line ∷ []) (ended_lines behind)) ∙ ap (λ t. (done ++ line ∷ []) ++ ended_lines t) (sym c.cut_at.ensures.after),
+      c.loop-at.invariant.2 ∙ ap (λ t. done ++ t) (ap ended_lines at.1 ∙ ended-first line beyond at.0) ∙ sym (append_assoc done (line ∷ []) (ended_lines beyond)) ∙ ap (λ t. (done ++ line ∷ []) ++ ended_lines t) (sym c.cut_at.ensures.after),
       writes-then c.args.self.now c.loop-at.self c.push_line.new.self done (line ∷ []) c.loop-at.invariant.3 (subst (λ t. Writes c.loop-at.self c.push_line.new.self (t ∷ [])) c.cut_at.ensures.before c.in_ok-push_line.ensures),
     )
 

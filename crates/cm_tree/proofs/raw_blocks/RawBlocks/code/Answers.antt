@@ -3,14 +3,14 @@ use Rattle.std.proofs.lemmas.Grind.{common_steps}
 use Rattle.cm_tree.proofs.lemmas.RawLemmas.{grows-more}
 use Rattle.cm_tree.proofs.raw_blocks.RawBlocks.code.Goals as goal
 
-pub returns-in_err-behind-clause-grows : goal.returns-in_err-behind-clause-grows
-returns-in_err-behind-clause-grows c = grows-more _ _ _ c.in_ok-at.ensures.grows c.in_err-behind.ensures.grows
+pub returns-in_err-beyond-clause-grows : goal.returns-in_err-beyond-clause-grows
+returns-in_err-beyond-clause-grows c = grows-more _ _ _ c.in_ok-at.ensures.grows c.in_err-beyond.ensures.grows
 
 pub returns-clause-grows : goal.returns-clause-grows
-returns-clause-grows c = grows-more _ _ _ c.in_ok-at.ensures.grows c.in_ok-behind.ensures.grows
+returns-clause-grows c = grows-more _ _ _ c.in_ok-at.ensures.grows c.in_ok-beyond.ensures.grows
 
-pub returns-in_err-behind-clause-large : goal.returns-in_err-behind-clause-large
-returns-in_err-behind-clause-large c = grind (arith, common_steps)
+pub returns-in_err-beyond-clause-large : goal.returns-in_err-beyond-clause-large
+returns-in_err-beyond-clause-large c = grind (arith, common_steps)
 
 pub returns-clause-block : goal.returns-clause-block
 returns-clause-block c = grind (arith, common_steps)

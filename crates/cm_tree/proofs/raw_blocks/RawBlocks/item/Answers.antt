@@ -2,12 +2,12 @@ use Rattle.std.proofs.Common.{◌≡◌, [], length, ap, sym, arith, ◌∙◌}
 use Rattle.std.proofs.lemmas.List.{append-nil}
 use Rattle.std.proofs.lemmas.Result.{err_from_is_err_and}
 use Rattle.cm_tree.specs.RawBlocks.{Raw, blocks_in}
-use Rattle.cm_tree.proofs.lemmas.RawLemmas.{grows-same, made-length, blocks-behind, blocks-held, blocks-last}
+use Rattle.cm_tree.proofs.lemmas.RawLemmas.{grows-same, made-length, blocks-beyond, blocks-held, blocks-last}
 use Rattle.cm_tree.proofs.raw_blocks.RawBlocks.item.Goals as goal
 
 pub returns-in_err-extend_from_slice-clause-grows : goal.returns-in_err-extend_from_slice-clause-grows
 returns-in_err-extend_from_slice-clause-grows c =
-    rw c.self.view_is at (blocks-behind _ _ _ c.self.invariant [] _ (c.in_err-extend_from_slice.ensures.items ∙ sym (append-nil _)) tt)
+    rw c.self.view_is at (blocks-beyond _ _ _ c.self.invariant [] _ (c.in_err-extend_from_slice.ensures.items ∙ sym (append-nil _)) tt)
 
 pub returns-in_err-from-clause-grows : goal.returns-in_err-from-clause-grows
 returns-in_err-from-clause-grows c = grows-same c.args.self.now
@@ -16,7 +16,7 @@ pub invariant_of-self-in_err-to : goal.invariant_of-self-in_err-to
 invariant_of-self-in_err-to c = blocks-held _ _ _ c.self.invariant c.args.blocks.now _ c.in_ok-extend_from_slice.ensures.items (rw c.self.view_is c.requires)
 
 pub returns-in_err-to-clause-grows : goal.returns-in_err-to-clause-grows
-returns-in_err-to-clause-grows c = rw c.self.view_is at (blocks-behind _ _ _ c.self.invariant c.args.blocks.now _ c.in_ok-extend_from_slice.ensures.items (rw c.self.view_is c.requires))
+returns-in_err-to-clause-grows c = rw c.self.view_is at (blocks-beyond _ _ _ c.self.invariant c.args.blocks.now _ c.in_ok-extend_from_slice.ensures.items (rw c.self.view_is c.requires))
 
 pub invariant_of-self-2 : goal.invariant_of-self-2
 invariant_of-self-2 c = blocks-held _ _ _ c.self.invariant c.args.blocks.now _ c.in_ok-extend_from_slice.ensures.items (rw c.self.view_is c.requires)
@@ -32,7 +32,7 @@ returns-clause-placed c =
     (omega (arith, c.in_ok-from.ensures.place, c.in_ok-to.ensures.place, c.in_ok-extend_from_slice.ensures.len), omega (arith, c.in_ok-to.ensures.place, made-length _ _ _ held))
 
 pub returns-clause-grows : goal.returns-clause-grows
-returns-clause-grows c = rw c.self.view_is at (blocks-behind _ _ _ c.self.invariant c.args.blocks.now _ c.in_ok-extend_from_slice.ensures.items (rw c.self.view_is c.requires))
+returns-clause-grows c = rw c.self.view_is at (blocks-beyond _ _ _ c.self.invariant c.args.blocks.now _ c.in_ok-extend_from_slice.ensures.items (rw c.self.view_is c.requires))
 
 pub returns-in_err-from-clause-large : goal.returns-in_err-from-clause-large
 returns-in_err-from-clause-large c =

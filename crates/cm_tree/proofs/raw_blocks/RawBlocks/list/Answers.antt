@@ -3,12 +3,12 @@ use Rattle.std.proofs.lemmas.List.{append-nil}
 use Rattle.std.proofs.lemmas.Result.{err_from_is_err_and}
 use Rattle.cm_tree.specs.RawBlocks.{Raw, items_in}
 use Rattle.cm_tree.specs.declared.tree.Block.TheVariants as trees
-use Rattle.cm_tree.proofs.lemmas.RawLemmas.{grows-same, items-length, items-behind, items-held, items-last}
+use Rattle.cm_tree.proofs.lemmas.RawLemmas.{grows-same, items-length, items-beyond, items-held, items-last}
 use Rattle.cm_tree.proofs.raw_blocks.RawBlocks.list.Goals as goal
 
 pub returns-in_err-extend_from_slice-clause-grows : goal.returns-in_err-extend_from_slice-clause-grows
 returns-in_err-extend_from_slice-clause-grows c =
-    rw c.self.view_is at (items-behind _ _ _ c.self.invariant [] _ (c.in_err-extend_from_slice.ensures.items ∙ sym (append-nil _)) tt)
+    rw c.self.view_is at (items-beyond _ _ _ c.self.invariant [] _ (c.in_err-extend_from_slice.ensures.items ∙ sym (append-nil _)) tt)
 
 pub returns-in_err-from-clause-grows : goal.returns-in_err-from-clause-grows
 returns-in_err-from-clause-grows c = grows-same c.args.self.now
@@ -17,7 +17,7 @@ pub invariant_of-self-in_err-to : goal.invariant_of-self-in_err-to
 invariant_of-self-in_err-to c = items-held _ _ _ c.self.invariant c.args.items.now _ c.in_ok-extend_from_slice.ensures.items (rw c.self.view_is c.requires)
 
 pub returns-in_err-to-clause-grows : goal.returns-in_err-to-clause-grows
-returns-in_err-to-clause-grows c = rw c.self.view_is at (items-behind _ _ _ c.self.invariant c.args.items.now _ c.in_ok-extend_from_slice.ensures.items (rw c.self.view_is c.requires))
+returns-in_err-to-clause-grows c = rw c.self.view_is at (items-beyond _ _ _ c.self.invariant c.args.items.now _ c.in_ok-extend_from_slice.ensures.items (rw c.self.view_is c.requires))
 
 pub invariant_of-self-2 : goal.invariant_of-self-2
 invariant_of-self-2 c = items-held _ _ _ c.self.invariant c.args.items.now _ c.in_ok-extend_from_slice.ensures.items (rw c.self.view_is c.requires)
@@ -29,7 +29,7 @@ returns-clause-block c =
     ∙ ap (λ (r : Raw). items_in r c.args.items.now) c.self.view_is)
 
 pub returns-clause-grows : goal.returns-clause-grows
-returns-clause-grows c = rw c.self.view_is at (items-behind _ _ _ c.self.invariant c.args.items.now _ c.in_ok-extend_from_slice.ensures.items (rw c.self.view_is c.requires))
+returns-clause-grows c = rw c.self.view_is at (items-beyond _ _ _ c.self.invariant c.args.items.now _ c.in_ok-extend_from_slice.ensures.items (rw c.self.view_is c.requires))
 
 pub returns-in_err-from-clause-large : goal.returns-in_err-from-clause-large
 returns-in_err-from-clause-large c =
