@@ -2,14 +2,14 @@
 _cmk() {
     local word=${COMP_WORDS[COMP_CWORD]} last=${COMP_WORDS[COMP_CWORD - 1]} words=''
     case $last in
-        --blocks | --inlines) return ;;
+        --bytes | --blocks | --inlines) return ;;
     esac
     if [ "$COMP_CWORD" -eq 1 ]; then
         words='render tree rewrite examples help --help --version -h -V'
     else
         case ${COMP_WORDS[1]} in
-            tree) words='--json --blocks --inlines --older --strike --no-html --web-links --safe --help -h' ;;
-            render | rewrite) words='--blocks --inlines --older --strike --no-html --web-links --safe --help -h' ;;
+            tree) words='--json --bytes --blocks --inlines --older --strike --no-html --web-links --safe --help -h' ;;
+            render | rewrite) words='--bytes --blocks --inlines --older --strike --no-html --web-links --safe --help -h' ;;
             examples) words='--older --strike --no-html --web-links --safe --help -h' ;;
             help) words='render tree rewrite examples help' ;;
         esac

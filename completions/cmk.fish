@@ -10,6 +10,7 @@ complete -c cmk -n "not __fish_seen_subcommand_from $commands" -a examples -d 'R
 complete -c cmk -n "not __fish_seen_subcommand_from $commands" -a help -d 'Print this message or the help of the given subcommand(s)'
 complete -c cmk -n "not __fish_seen_subcommand_from $commands" -s V -l version -d 'Print version'
 complete -c cmk -s h -l help -d 'Print help'
+complete -c cmk -n "__fish_seen_subcommand_from $jobs" -x -l bytes -d 'The most bytes that the text may have, 1 to 1073741824'
 complete -c cmk -n "__fish_seen_subcommand_from $jobs" -x -l blocks -d 'The most quotes and list items that may enclose a line, 1 to 500'
 complete -c cmk -n "__fish_seen_subcommand_from $jobs" -x -l inlines -d 'How deeply emphasis, links and images may nest, 1 to 500'
 complete -c cmk -n "__fish_seen_subcommand_from tree" -l json -d 'Prints the tree as JSON (mdast)'

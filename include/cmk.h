@@ -4,8 +4,8 @@
  *
  * For all calls:
  * - A text is a pointer and a length in bytes. It needn't end in NUL, and a NUL in it is a character of the text. It is only read.
- * - No pointer may be null. If the length is 0, any pointer that isn't null will do, such as "". (As built, the library reads a null text
- *   of 0 bytes as the empty text, and the tests try that; the proofs are about pointers that aren't null.)
+ * - No pointer may be null but that of a text or a room of 0 bytes: a null text is the empty text. What an output holds before a call
+ *   doesn't matter. (The tests try both. The proofs are about pointers that aren't null, and outputs that are set.)
  * - Input and output may not overlap.
  * - The library has no state. Any number of threads may call it at once, each with its own output or room. They may share a text and
  *   options while nobody writes to them.
@@ -35,9 +35,32 @@ enum {
     CMK_BLOCKS_TOO_DEEP = 3,  /* place: the line, counted from 1, enclosed by more quotes and list items than the limit */
     CMK_INLINES_TOO_DEEP = 4, /* place: the leaf, counted from 1, whose inlines nest deeper than the limit */
     CMK_NO_MEMORY = 5,        /* out of memory: a refused allocation left no result */
-    CMK_CANNOT_SPELL = 8,     /* cmk_rewrite: the tree can't be written as source; place: the number of the reason */
+    CMK_CANNOT_SPELL = 8,     /* cmk_rewrite: the tree can't be written as source; place: a CMK_REASON_ */
     CMK_OUT_OF_RANGE = 11,    /* an option, or the number of a fault, is out of range */
     CMK_NO_ROOM = 12          /* cmk_html_into, cmk_fault_text: the room is too small; `length` is set */
+};
+
+/* Why a tree can't be written as source: the places of CMK_CANNOT_SPELL. docs/cmk.md describes the reasons. */
+enum {
+    CMK_REASON_DEFINITION = 1,             /* a definition */
+    CMK_REASON_NUL = 2,                    /* U+0000 */
+    CMK_REASON_SHAPE = 3,                  /* a malformed node */
+    CMK_REASON_TEXT = 4,                   /* an empty or divided text */
+    CMK_REASON_EMPHASIS_NESTED = 5,        /* emphasis in emphasis */
+    CMK_REASON_EMPHASIS_TOUCHING = 6,      /* emphasis beside emphasis */
+    CMK_REASON_EMPHASIS_EDGE = 7,          /* an edge of emphasis */
+    CMK_REASON_CODE_SPAN = 8,              /* a code span */
+    CMK_REASON_RAW_HTML = 9,               /* raw HTML */
+    CMK_REASON_LINK_IN_LINK = 10,          /* a link in a link */
+    CMK_REASON_LINE_BREAK = 11,            /* a line break */
+    CMK_REASON_CODE_TEXT = 12,             /* the text of a code block */
+    CMK_REASON_HTML_BLOCK = 13,            /* an HTML block */
+    CMK_REASON_ADJACENT_LISTS = 14,        /* two lists of one type side by side */
+    CMK_REASON_ITEM_BEGINS_WITH_LIST = 15, /* an item that begins with a list */
+    CMK_REASON_LOOSENESS = 16,             /* a loose or tight list */
+    CMK_REASON_STRIKE_OFF = 17,            /* strikethrough while it is off */
+    CMK_REASON_ADDRESS_OFF = 18,           /* an address that isn't followed */
+    CMK_REASON_INFO_OFF = 19               /* an info of several lines while raw HTML is off */
 };
 
 /* The options of a call. All zero is the default: the standard limits and rules. */
@@ -53,10 +76,10 @@ typedef struct cmk_options {
 
 #define CMK_OPTIONS { 0, 0, 0, false, false, false, false }
 
-/* The same for texts from strangers, as with `cmk --safe`: no_html and web_links are set. */
+/* The same for untrusted text, as with `cmk --safe`: no_html and web_links are set. */
 #define CMK_SAFE_OPTIONS { 0, 0, 0, false, false, true, true }
 
-/* What a call returns. Set it to CMK_OUTPUT before the first call, and free it with cmk_free before the next. */
+/* What a call returns. Free it with cmk_free before the next call. Set it to CMK_OUTPUT if cmk_free may come before the first. */
 typedef struct cmk_output {
     const char *bytes; /* the output in UTF-8 and a NUL, in a block of malloc; not to be read unless the call returned CMK_DONE */
     size_t size;       /* the length with the NUL; 0 unless the call returned CMK_DONE */
@@ -74,7 +97,7 @@ typedef struct cmk_filled {
 
 /* Returns the HTML of the text, as `cmk render` writes it, in an output that the caller frees with cmk_free.
  * The result is CMK_DONE, or the text's one fault with its place, CMK_NO_MEMORY or CMK_OUT_OF_RANGE, and then there are no bytes.
- * With CMK_OPTIONS, raw HTML is passed through and `javascript:` links stay. To show what strangers write, start with
+ * With CMK_OPTIONS, raw HTML is passed through and `javascript:` links stay. For untrusted text, start with
  * CMK_SAFE_OPTIONS. */
 uint32_t cmk_html(const char *text, size_t length, const cmk_options *options, cmk_output *output);
 
@@ -86,7 +109,7 @@ uint32_t cmk_tree(const char *text, size_t length, const cmk_options *options, c
 uint32_t cmk_json(const char *text, size_t length, const cmk_options *options, cmk_output *output);
 
 /* Returns CommonMark source of the text's tree without its link reference definitions, as `cmk rewrite` writes it. Otherwise like
- * cmk_html; if the text has no fault and its tree can't be written as source, CMK_CANNOT_SPELL with the number of the reason as place. */
+ * cmk_html; if the text has no fault and its tree can't be written as source, CMK_CANNOT_SPELL with a CMK_REASON_ as place. */
 uint32_t cmk_rewrite(const char *text, size_t length, const cmk_options *options, cmk_output *output);
 
 /* Writes the HTML of the text and a NUL to the start of the caller's room of `size` bytes.
@@ -104,7 +127,7 @@ uint32_t cmk_fault_text(uint32_t number, size_t place, char *room, size_t size, 
 /* Returns the version of the linked library: 65536 times the first number of CMK_VERSION, plus 256 times the second, plus the third. */
 uint32_t cmk_version(void);
 
-/* Frees the bytes of an output, which has none afterwards. It is C, and not covered by the proofs. */
+/* Frees the bytes of an output, which has none afterwards. It is C, and not covered by the proofs. The libraries export it too. */
 static inline void cmk_free(cmk_output *output) {
     if (output->size > 0) {
 #ifdef __cplusplus

@@ -27,22 +27,40 @@ file_rule = record (new_rule (codes "file")) { value_names = 1 }
 abbrev pub needed_file_rule : Rule
 needed_file_rule = record file_rule { required = true }
 
--- the option `--name N`, a number from 1 to 500, and 100 by default
-abbrev pub limit_rule : Text → Rule
-limit_rule name = record (new_rule name) {
+-- the option `--name N`, a number from 1 on, and what it is by default
+abbrev pub number_rule : Text → (most : ℕ) → (standard : Text) → Rule
+number_rule name most standard = record (new_rule name) {
   long = Some name;
   value_names = 1;
-  parser = Some (Unsigned 1 500);
-  defaults = codes "100" ∷ [];
+  parser = Some (Unsigned 1 most);
+  defaults = standard ∷ [];
 }
 
--- the option `--blocks N`
-abbrev pub blocks_rule : Rule
-blocks_rule = limit_rule (codes "blocks")
+-- the limits that have an option
+pub data Limit : Type 0 where
+  Bytes : Limit
+  Blocks : Limit
+  Inlines : Limit
 
--- the option `--inlines N`
-abbrev pub inlines_rule : Rule
-inlines_rule = limit_rule (codes "inlines")
+abbrev pub limit_name : Limit → Text
+limit_name Bytes = codes "bytes"
+limit_name Blocks = codes "blocks"
+limit_name Inlines = codes "inlines"
+
+-- the greatest number of a limit; the least is 1
+abbrev pub most : Limit → ℕ
+most Bytes = 2 ^ 30
+most Blocks = 500
+most Inlines = 500
+
+-- the number that a limit is by default
+abbrev pub standard : Limit → Text
+standard Bytes = codes "268435456"
+standard Blocks = codes "100"
+standard Inlines = codes "100"
+
+abbrev pub limit_rule : Limit → Rule
+limit_rule limit = number_rule (limit_name limit) (most limit) (standard limit)
 
 -- the flag `--name`, which takes no value
 abbrev pub flag_rule : Text → Rule
@@ -67,9 +85,10 @@ flag_name Safe = codes "safe"
 abbrev pub with_flags : App → App
 with_flags app = fold (λ (a : App) flag. with_rule a (flag_rule (flag_name flag))) app (Older ∷ Strike ∷ NoHtml ∷ WebLinks ∷ Safe ∷ [])
 
--- A subcommand that reads a text has FILE, `--blocks N`, `--inlines N` and the flags.
+-- A subcommand that reads a text has FILE, the limits and the flags.
 abbrev pub job_app : Text → App
-job_app name = with_flags (with_rule (with_rule (with_rule (new_app name) file_rule) blocks_rule) inlines_rule)
+job_app name =
+    with_flags (with_rule (with_rule (with_rule (with_rule (new_app name) file_rule) (limit_rule Bytes)) (limit_rule Blocks)) (limit_rule Inlines))
 
 -- the name of the flag that writes the tree as JSON
 abbrev pub json_name : Text
@@ -127,17 +146,13 @@ file_at rows = option_and_then file_named (first_of (codes "file") rows)
 abbrev pub file_in : Option Found → Option Text
 file_in found = option_and_then (λ f. file_at f.1) found
 
--- the standard limits with these numbers of blocks and inlines, and these rules
-abbrev pub limits_with : Rules → (blocks inlines : ℕ) → Option LimitsView
-limits_with rules blocks inlines = option_map (λ (limits : LimitsView). record limits { rules = rules }) (limits_for (2 ^ 28) blocks inlines)
+-- the limits with these numbers and these rules
+abbrev pub limits_with : Rules → (bytes blocks inlines : ℕ) → Option LimitsView
+limits_with rules bytes blocks inlines = option_map (λ (limits : LimitsView). record limits { rules = rules }) (limits_for bytes blocks inlines)
 
 -- a number, as it is written
 abbrev pub as_number : Text → ℕ
 as_number number = digits_value 10 (without_leading_plus number)
-
--- the limits with these numbers, as they are written
-abbrev pub limits_of : Rules → (blocks inlines : Text) → Option LimitsView
-limits_of rules blocks inlines = limits_with rules (as_number blocks) (as_number inlines)
 
 -- the flag of this name is set
 abbrev pub is_set : Text → List Row → Bool
@@ -165,14 +180,22 @@ rules_for is_on = record {
 abbrev pub rules_in : List Row → Rules
 rules_in rows = rules_for (λ flag. is_set (flag_name flag) rows)
 
+-- the number of a limit
+abbrev pub number_at : Limit → List Row → Option ℕ
+number_at limit rows = option_map as_number (first_of (limit_name limit) rows)
+
+-- the limits with numbers that may be there
+abbrev pub limits_from : Rules → (bytes blocks inlines : Option ℕ) → Option LimitsView
+limits_from rules bytes blocks inlines =
+    option_and_then (λ most_bytes. option_and_then (λ most_blocks. option_and_then (limits_with rules most_bytes most_blocks) inlines) blocks) bytes
+
 -- the limits of the options of a subcommand
 abbrev pub limits_at : List Row → Option LimitsView
-limits_at rows =
-    option_and_then (λ blocks. option_and_then (limits_of (rules_in rows) blocks) (first_of (codes "inlines") rows)) (first_of (codes "blocks") rows)
+limits_at rows = limits_from (rules_in rows) (number_at Bytes rows) (number_at Blocks rows) (number_at Inlines rows)
 
 -- the limits of a job; examples are read under the standard ones
 abbrev pub limits_for_job : Job → List Row → Option LimitsView
-limits_for_job Examples rows = limits_with (rules_in rows) 100 100
+limits_for_job Examples rows = limits_with (rules_in rows) (2 ^ 28) 100 100
 limits_for_job _ rows = limits_at rows
 
 -- the limits of what is named
@@ -185,24 +208,21 @@ pub record IsTaskOf (found : Option Found) (task : Task) : Type 0 where
   pub file : file_in found ≡ option_map string_bytes task.file
   pub limits : limits_in found ≡ Some task.limits
 
--- an option as it is given: the number of blocks or of inlines, as it is written, a flag, or `--json`
+-- an option as it is given: a limit and its number, as it is written, a flag, or `--json`
 pub data Choice : Type 0 where
-  Blocks : Text → Choice
-  Inlines : Text → Choice
+  Number : Limit → Text → Choice
   Set : Flag → Choice
   Json : Choice
 
 -- the name of the option
 abbrev pub option_of : Choice → Text
-option_of (Blocks number) = codes "blocks"
-option_of (Inlines number) = codes "inlines"
+option_of (Number limit number) = limit_name limit
 option_of (Set flag) = flag_name flag
 option_of Json = json_name
 
 -- the words that give an option
 abbrev pub words_of : Choice → List Text
-words_of (Blocks number) = codes "--blocks" ∷ number ∷ []
-words_of (Inlines number) = codes "--inlines" ∷ number ∷ []
+words_of (Number limit number) = (codes "--" ++ limit_name limit) ∷ number ∷ []
 words_of (Set flag) = (codes "--" ++ flag_name flag) ∷ []
 words_of Json = codes "--json" ∷ []
 
@@ -227,15 +247,13 @@ each_once (choice ∷ choices) = not (is_given (option_of choice) choices) && ea
 -- the numbers that are given
 abbrev pub numbers_in : List Choice → List Text
 numbers_in [] = []
-numbers_in (Blocks number ∷ choices) = number ∷ numbers_in choices
-numbers_in (Inlines number ∷ choices) = number ∷ numbers_in choices
+numbers_in (Number limit number ∷ choices) = number ∷ numbers_in choices
 numbers_in (Set flag ∷ choices) = numbers_in choices
 numbers_in (Json ∷ choices) = numbers_in choices
 
 -- the value of an option; that of a flag is `true`
 abbrev pub value_of : Choice → Text
-value_of (Blocks number) = number
-value_of (Inlines number) = number
+value_of (Number limit number) = number
 value_of (Set flag) = codes "true"
 value_of Json = codes "true"
 
@@ -243,17 +261,17 @@ value_of Json = codes "true"
 abbrev pub given_for : Text → List Choice → Option Text
 given_for name choices = option_map value_of (find (λ choice. bytes_eq (option_of choice) name) choices)
 
--- the number of the option of this name: the one that is given, or 100
-abbrev pub number_for : Text → List Choice → Text
-number_for name choices = unwrap_or (given_for name choices) (codes "100")
+-- the number of a limit: the one that is given, or the standard one
+abbrev pub number_for : Limit → List Choice → ℕ
+number_for limit choices = as_number (unwrap_or (given_for (limit_name limit) choices) (standard limit))
 
 -- the rules of these options
 abbrev pub rules_by : List Choice → Rules
 rules_by choices = rules_for (λ flag. is_given (flag_name flag) choices)
 
--- The limits of these options: each number that is given, or else 100, and the rules of the flags.
+-- the limits of these options, with the rules of the flags
 abbrev pub limits_by : List Choice → Option LimitsView
-limits_by choices = limits_of (rules_by choices) (number_for (codes "blocks") choices) (number_for (codes "inlines") choices)
+limits_by choices = limits_with (rules_by choices) (number_for Bytes choices) (number_for Blocks choices) (number_for Inlines choices)
 
 -- the word is a hyphen followed by more
 abbrev pub is_option : Text → Bool
@@ -261,13 +279,17 @@ is_option [] = false
 is_option (byte ∷ []) = false
 is_option (byte ∷ next ∷ bytes) = byte == 45
 
--- the word is a number from 1 to 500
-abbrev pub is_limit : Text → Bool
-is_limit = is_unsigned_in 1 500
+-- the word is a number in the range of a limit
+abbrev pub is_limit : Limit → Text → Bool
+is_limit limit = is_unsigned_in 1 (most limit)
 
--- the numbers that are given are from 1 to 500
+abbrev pub is_in_range : Choice → Bool
+is_in_range (Number limit number) = is_limit limit number
+is_in_range _ = true
+
+-- the numbers that are given are in their ranges
 abbrev pub are_limits : List Choice → Bool
-are_limits choices = list_all is_limit (numbers_in choices)
+are_limits choices = list_all is_in_range choices
 
 -- a number that is given is a hyphen followed by more
 abbrev pub hold_an_option : List Choice → Bool

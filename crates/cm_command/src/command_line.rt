@@ -6,7 +6,7 @@ ghost use Rattle.clap.specs.Words.{app_of, found_of, kind_of, rows_of, rule_of, 
 ghost use Rattle.cm_command.specs.CommandLine.{are_for, are_limits, cmk_app, each_once, examples_app};
 ghost use Rattle.cm_command.specs.CommandLine.{file_at, file_named, file_rule, flag_rule, found_for};
 ghost use Rattle.cm_command.specs.CommandLine.{hold_an_option, in_form, is_option, is_set, job_app};
-ghost use Rattle.cm_command.specs.CommandLine.{job_of, json_name, limit_rule, limits_at, limits_by};
+ghost use Rattle.cm_command.specs.CommandLine.{job_of, json_name, limits_at, limits_by, number_rule};
 ghost use Rattle.cm_command.specs.CommandLine.{limits_for_job, reads_a_text, rules_in, stops_of};
 ghost use Rattle.cm_command.specs.CommandLine.{tree_app, with_flags, words_for};
 ghost use Rattle.cm_command.specs.CommandLine.{Choice, IsMistake, IsTaskFor, IsTaskOf, StopsBy};
@@ -14,6 +14,7 @@ ghost use Rattle.cm_command.specs.CommandLine.{StopsFor};
 ghost use Rattle.cm_command.specs.steps.Arguments.{IsJob, OptionsAreRead, AreRead, FlagsAreRead};
 
 use crate::job::{Job, Stop, Task};
+use crate::tips::with_tip;
 use clap::builder::ValueParser;
 use clap::error::ErrorKind;
 use clap::{Arg, ArgAction, ArgMatches, Command, Error};
@@ -49,16 +50,22 @@ fn file_arg<'a>(alloc: Global, help: &'a str) -> Arg<'a>
     Arg::new(alloc, "file").value_name("FILE").help(help)
 }
 
-/// The option of this name, which takes a number.
-fn limit_arg<'a>(alloc: Global, name: &'a str, help: &'a str) -> Arg<'a>
-    ensures rule { rule_of result ≡ limit_rule name.now }
+/// The option of this name, which takes a number from 1 on.
+fn limit_arg<'a>(
+    alloc: Global,
+    name: &'a str,
+    most: u64,
+    standard: &'a str,
+    help: &'a str,
+) -> Arg<'a>
+    ensures rule { rule_of result ≡ number_rule name.now most standard.now }
     ensures local { result.global ≡ false }
 {
     Arg::new(alloc, name)
         .long(name)
         .value_name("N")
-        .value_parser(ValueParser::unsigned(1, 500))
-        .default_value("100")
+        .value_parser(ValueParser::unsigned(1, most))
+        .default_value(standard)
         .help(help)
 }
 
@@ -92,14 +99,16 @@ fn job_command<'a>(alloc: Global, name: &'a str, about: &'a str) -> Result<Comma
     ensures app { IfOk result (λ c. app_of c ≡ job_app name.now) }
     ensures local { IfOk result (λ c. (out-Command c).has_globals ≡ false) }
 {
+    let bytes = "The most bytes that the text may have, 1 to 1073741824";
     let blocks = "The most quotes and list items that may enclose a line, 1 to 500";
     let inlines = "How deeply emphasis, links and images may nest, 1 to 500";
     let file = "The file to read; standard input if it is - or omitted";
     let command = Command::new(alloc, name)
         .about(about)
         .arg(file_arg(alloc, file))?
-        .arg(limit_arg(alloc, "blocks", blocks))?
-        .arg(limit_arg(alloc, "inlines", inlines))?;
+        .arg(limit_arg(alloc, "bytes", 1 << 30, "268435456", bytes))?
+        .arg(limit_arg(alloc, "blocks", 500, "100", blocks))?
+        .arg(limit_arg(alloc, "inlines", 500, "100", inlines))?;
     with_flags(alloc, command)
 }
 
@@ -157,8 +166,9 @@ fn job_of(name: &str) -> Option<Job>
     }
 }
 
-/// Why there are no matches. Lack of memory is tested first, because it has a text and a status too.
-fn stop_of(alloc: Global, error: &Error) -> Stop
+/// Why there are no matches of the words. Lack of memory is tested first, because it has a text and a status
+/// too.
+fn stop_of(alloc: Global, error: &Error, words: &[String]) -> Stop
     ensures memory { kind_of error.now ≡ ErrorKind.OutOfMemory → result ≡ Stop.NoMemory }
     ensures kind { StopsBy (kind_of error.now) result }
 {
@@ -168,10 +178,12 @@ fn stop_of(alloc: Global, error: &Error) -> Stop
     let Ok(text) = format!(in alloc; "{error}") else {
         return Stop::NoMemory;
     };
-    if error.use_stderr() {
-        Stop::Wrong(text)
-    } else {
-        Stop::Help(text)
+    if !error.use_stderr() {
+        return Stop::Help(text);
+    }
+    match with_tip(alloc, &text, error.kind(), words) {
+        Ok(text) => Stop::Wrong(text),
+        Err(_) => Stop::NoMemory,
     }
 }
 
@@ -210,10 +222,10 @@ fn limits_of(found: &ArgMatches<'_>) -> Limits
     requires { AreRead (rows_of (found_of found.now)) }
     ensures { limits_at (rows_of (found_of found.now)) ≡ Some result }
 {
-    let standard = Limits::standard();
+    let bytes = found.get_one::<usize>("bytes").unwrap();
     let blocks = found.get_one::<usize>("blocks").unwrap();
     let inlines = found.get_one::<usize>("inlines").unwrap();
-    let limits = Limits::new(standard.bytes(), blocks, inlines).unwrap();
+    let limits = Limits::new(bytes, blocks, inlines).unwrap();
     limits.with_rules(rules_of(found))
 }
 
@@ -286,6 +298,6 @@ pub fn task(alloc: Global, words: &[String]) -> Result<Task, Stop>
 {
     match command(alloc)?.try_get_matches_from(words) {
         Ok(matches) => Ok(task_of(alloc, &matches)?),
-        Err(error) => Err(stop_of(alloc, &error)),
+        Err(error) => Err(stop_of(alloc, &error, words)),
     }
 }

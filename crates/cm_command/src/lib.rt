@@ -17,6 +17,7 @@
 mod command_line;
 mod job;
 pub mod laws;
+mod tips;
 
 pub use command_line::task;
 pub use job::{Job, Stop, Task};

@@ -21,7 +21,7 @@ pub record HtmlExamples : Type 0 where
   pub indented_code : converted profile (codes "    ***") ≡ codes "<pre><code>***\n</code></pre>\n"
   pub lazy_line : converted profile (codes "> a\nb\n") ≡ codes "<blockquote>\n<p>a\nb</p>\n</blockquote>\n"
   pub list_in_a_quote : converted profile (codes "> - a\n>   b\n> - c\n") ≡ codes "<blockquote>\n<ul>\n<li>a\nb</li>\n<li>c</li>\n</ul>\n</blockquote>\n"
-  pub spaces_behind_a_tab : converted profile (codes "a \t  \nb \t") ≡ codes "<p>a \t<br />\nb</p>\n"
+  pub spaces_after_a_tab : converted profile (codes "a \t  \nb \t") ≡ codes "<p>a \t<br />\nb</p>\n"
   pub code_and_escape : converted profile (codes "`a*` \\*&copy;\n") ≡ codes "<p><code>a*</code> *" ++ 0xC2 ∷ 0xA9 ∷ codes "</p>\n"
   pub emphasis : converted profile (codes "*a **b***\n") ≡ codes "<p><em>a <strong>b</strong></em></p>\n"
   pub link_before_its_definition : converted profile (codes "[a]\n\n[A]: /u\n") ≡ codes "<p><a href=\"/u\">a</a></p>\n"

@@ -1,22 +1,17 @@
 -- How deep the inlines of a document's leaves nest.
-use Rattle.std.specs.Prelude.{ℕ, nat_lt, List, [], ◌∷◌, ◌++◌, map, Option}
-use Rattle.std.specs.List.{concat, position_from}
+use Rattle.std.specs.Prelude.{ℕ, nat_lt, List, [], ◌∷◌, map, Option}
+use Rattle.std.specs.List.{concat, flat_map, position_from}
 use Rattle.cm_tree.specs.Depth.{inlines_depth}
 use Rattle.cm_tree.specs.declared.tree.Block.{Block, Block-F}
 use Rattle.cm_tree.specs.declared.tree.Block.TheOpen as block
 use Rattle.cm_tree.specs.declared.tree.Block.TheFolds.{fold-Block}
-
--- lists of lists, one after another
-abbrev pub concat_items : List (List (List ℕ)) → List ℕ
-concat_items [] = []
-concat_items (item ∷ items) = concat item ++ concat_items items
 
 -- how deep the inlines of each leaf of a block nest, given those of each block inside; 0 for a leaf without inlines
 abbrev pub depths_step : Block-F (List ℕ) → List ℕ
 depths_step (block.Paragraph content) = inlines_depth content ∷ []
 depths_step (block.Heading level content) = inlines_depth content ∷ []
 depths_step (block.Quote blocks) = concat blocks
-depths_step (block.List kind tight items) = concat_items items
+depths_step (block.List kind tight items) = flat_map concat items
 depths_step _ = 0 ∷ []
 
 abbrev pub depths_in : Block → List ℕ

@@ -21,4 +21,5 @@ pub mod Shown
 pub mod ShownExamples
 pub mod TextMarkup
 pub mod Within
+pub mod FaultOrder
 pub mod steps

@@ -27,7 +27,7 @@ pub record ReportExamples : Type 0 where
   pub opening_line_in_a_source : examples_of (file (example_lines (opening_line ∷ []) (middle_line ∷ opening_line ∷ [])))
       ≡ Ok (record { source = opening_line ++ codes "\n"; html = codes ".\n" ++ opening_line ++ codes "\n" } ∷ [])
   pub carriage_returns : examples_of (opening_line ++ codes "\r\na\r.\r\nb\n" ++ closing_line) ≡ Ok (record { source = codes "a\n"; html = codes "b\n" } ∷ [])
-  pub more_behind_the_word : examples_of (file ((opening_line ++ codes " ") ∷ [])) ≡ Ok []
+  pub more_after_the_word : examples_of (file ((opening_line ++ codes " ") ∷ [])) ≡ Ok []
   pub opening_line_alone : report_on profile opening_line ≡ Err (BadExampleFile 1)
   pub closed_before_the_middle : report_on profile (file (codes "a" ∷ opening_line ∷ codes "b" ∷ closing_line ∷ [])) ≡ Err (BadExampleFile 2)
   pub no_closing_line : report_on profile (file (example_lines [] [] ++ opening_line ∷ middle_line ∷ codes "b" ∷ [])) ≡ Err (BadExampleFile 4)

@@ -4,7 +4,7 @@ use Rattle.std.specs.declared.alloc.Global.{Global}
 use Rattle.cm_text.specs.DeviceViews.{SinkView, SourceView}
 use Rattle.cm_text.specs.Rules.{Rules}
 use Rattle.cm_text.specs.Limits.{LimitsView}
-use Rattle.cm_text.specs.Writing.{IsUnwritten}
+use Rattle.cm_text.specs.Writing.{IsUnwritten, Wrote, WroteFront}
 use Rattle.cm_tree.specs.declared.tree.Block.{Block}
 use Rattle.cm_source.specs.Definitions.{without_definitions}
 use Rattle.cm_source.specs.Refusals.{refusal_of, IsSpellable}
@@ -47,6 +47,15 @@ Rewrites (Err (Unspellable why)) limits bytes from left old new =
     ReadWhole limits bytes from left × (refusal_of limits.rules (kept_tree limits.rules bytes) ≡ Some why) × IsUnwritten old new
 Rewrites answer limits bytes from left old new =
     Writes (λ old new text. IsUnwritten old new) rewritten answer limits bytes from left old new × LastingIfWritten answer limits bytes
+
+-- What was written reads back as the tree of the text without its definitions; or it is a prefix, up to a failed write, of a source that
+-- does; or nothing was written.
+abbrev pub WritesBack : Result ℕ Fault → LimitsView → List ℕ → SourceView → SourceView → SinkView → SinkView → Type 0
+WritesBack (Ok n) limits bytes from left old new =
+    ReadWhole limits bytes from left × (source : List ℕ) × (tree_of limits.rules source ≡ kept_tree limits.rules bytes) × Wrote old new source 0 × (n ≡ length source)
+WritesBack (Err (WriteFailed written)) limits bytes from left old new =
+    ReadWhole limits bytes from left × (source : List ℕ) × (tree_of limits.rules source ≡ kept_tree limits.rules bytes) × WroteFront old new source written
+WritesBack (Err fault) limits bytes from left old new = IsUnwritten old new
 
 -- At the end of the input: the spelling of its tree without definitions, or the input's fault, or why the tree can't be spelled.
 abbrev pub MakesPlainSource : Result (String Global) Fault → LimitsView → List ℕ → Type 0

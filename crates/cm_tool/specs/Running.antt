@@ -1,16 +1,18 @@
 -- What running a task, or reporting why there is none, writes and returns.
-use Rattle.std.specs.Prelude.{◌≡◌, ℕ, zero, List, ◌++◌, Result, Ok, Err, codes, string_bytes, ◌⊎◌}
+use Rattle.std.specs.Prelude.{◌≡◌, ℕ, List, [], ◌∷◌, ◌++◌, Result, Ok, Err, codes, string_bytes, ◌⊎◌}
 use Rattle.cm_text.specs.DeviceViews.{SinkView, SourceView}
 use Rattle.cm_text.specs.Limits.{LimitsView}
+use Rattle.cm_text.specs.Lines.{text_of}
 use Rattle.cm_text.specs.Writing.{IsUnwritten, Wrote, WroteFront}
 use Rattle.cm_tool.specs.Writing.{Converts, Lists, WritesJson}
 use Rattle.cm_tool.specs.Reporting.{WritesReport}
 use Rattle.cm_tool.specs.Rewriting.{Rewrites}
 use Rattle.cm_tool.specs.declared.fault.Fault.{Fault}
 use Rattle.cm_tool.specs.declared.fault.Fault.TheVariants as faults
-use Rattle.cm_tool.specs.declared.fault.Fault.TheVariants.{ReadFailed, WriteFailed}
-use Rattle.cm_tool.specs.ExampleFiles.{opening_line}
+use Rattle.cm_tool.specs.declared.fault.Fault.TheVariants.{BadExampleFile, ReadFailed, WriteFailed}
+use Rattle.cm_tool.specs.ExampleFiles.{Example, examples_of, opening_line}
 use Rattle.cm_tool.specs.FaultLines.{fault_text, line_of}
+use Rattle.cm_tool.specs.Reading.{IsWhole, RefusesBy, fault_of_text, settled_of_text}
 use Rattle.cm_tool.specs.Shown.{shown}
 use Rattle.cm_command.specs.declared.job.Job.{Job}
 use Rattle.cm_command.specs.declared.job.Job.TheVariants.{Render, Tree, TreeJson, Rewrite, Examples}
@@ -34,19 +36,10 @@ abbrev pub status_of : Result ℕ Fault → ℕ
 status_of (Ok _) = 0
 status_of (Err _) = 1
 
--- the line about a file without examples
-abbrev pub no_example_line : List ℕ
-no_example_line = line_of (codes "no example found; an example starts with the line " ++ opening_line)
-
--- The error writer gets that line if no example was found, and otherwise nothing.
-abbrev pub ReportsDone : Job → (count : ℕ) → SinkView → SinkView → Type 0
-ReportsDone Examples zero old new = Offered old new no_example_line
-ReportsDone _ _ old new = IsUnwritten old new
-
--- The error writer gets the line of a fault, or what there is to report of a job that is done.
-abbrev pub Reports : Job → Result ℕ Fault → SinkView → SinkView → Type 0
-Reports job (Ok count) old new = ReportsDone job count old new
-Reports job (Err fault) old new = OfferedLine fault old new
+-- The error writer gets the line of a fault, and otherwise nothing.
+abbrev pub Reports : Result ℕ Fault → SinkView → SinkView → Type 0
+Reports (Ok _) old new = IsUnwritten old new
+Reports (Err fault) old new = OfferedLine fault old new
 
 -- what doing a job returns once these bytes have been read, and what has been written then
 abbrev pub Does : Job → Result ℕ Fault → LimitsView → List ℕ → SourceView → SourceView → SinkView → SinkView → Type 0
@@ -60,7 +53,7 @@ Does Examples answer limits bytes from left old new = WritesReport answer limits
 pub record RunsTo (answer : Result ℕ Fault) (status : ℕ) (job : Job) (limits : LimitsView) (bytes : List ℕ) (from left : SourceView) (old new old-errors new-errors : SinkView) : Type 0 where
   pub does : Does job answer limits bytes from left old new
   pub told : status ≡ status_of answer
-  pub reports : Reports job answer old-errors new-errors
+  pub reports : Reports answer old-errors new-errors
 
 -- Help is written, with status 0, or the failure to write it is reported, with 1. A wrong command line is
 -- reported with 2, and exhausted memory with 1.
@@ -80,3 +73,21 @@ unopened_lines name reason = line_of (fault_text ReadFailed) ++ line_of (codes "
 -- the errors get these lines, or that of exhausted memory
 abbrev pub TellsUnopened : (name reason : List ℕ) → SinkView → SinkView → Type 0
 TellsUnopened name reason old new = Offered old new (unopened_lines name reason) ⊎ OfferedLine faults.NoMemory old new
+
+-- the line about a file without examples
+abbrev pub no_example_line : List ℕ
+no_example_line = line_of (codes "no example found; an example starts with the line " ++ opening_line)
+
+-- the errors get that line if there is no example, and otherwise nothing
+abbrev pub TellsIfNone : List Example → SinkView → SinkView → Type 0
+TellsIfNone [] old new = Offered old new no_example_line
+TellsIfNone (_ ∷ _) old new = IsUnwritten old new
+
+-- What reporting a file without examples returns: the file has been read to its end, and its examples are found; or why they aren't.
+abbrev pub TellsNoExample : {A : Type 0} → Result A Fault → LimitsView → List ℕ → SourceView → SourceView → SinkView → SinkView → Type 0
+TellsNoExample (Ok _) limits bytes from left old new =
+    IsWhole (fault_of_text limits bytes) from left × (examples : List Example) × (examples_of (text_of bytes) ≡ Ok examples) × TellsIfNone examples old new
+TellsNoExample (Err (BadExampleFile line)) limits bytes from left old new =
+    IsWhole (fault_of_text limits bytes) from left × (examples_of (text_of bytes) ≡ Err line) × IsUnwritten old new
+TellsNoExample (Err fault) limits bytes from left old new =
+    RefusesBy (settled_of_text limits bytes) (fault_of_text limits bytes) fault from left × IsUnwritten old new

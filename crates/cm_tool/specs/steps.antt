@@ -1,5 +1,4 @@
 pub mod FaultParts
-pub mod FaultOrder
 pub mod Pushing
 pub mod Handing
 pub mod Numbering

@@ -10,14 +10,14 @@ use cm_source::{SourceFault, Why};
 use cm_text::{NoMemory, TextFault, WriteFailed};
 use itoa::Buffer;
 use std::alloc::AllocError;
-use std::error::Error;
 use std::fmt;
+use thiserror::Error;
 
 /// The greatest number of bytes of a fault's line.
 pub const LINE: usize = 126;
 
 /// Why a task ends without its output. Its `Display` is what the program prints after `cmk: `.
-#[derive(Clone, Copy, Debug, PartialEq, Eq, Drop)]
+#[derive(Clone, Copy, Debug, PartialEq, Eq, Drop, Error)]
 pub enum Fault {
     /// The bytes aren't UTF-8; `at` is the length of their longest well-formed prefix.
     NotUtf8 { at: usize },
@@ -27,7 +27,8 @@ pub enum Fault {
     BlocksTooDeep { line: u128 },
     /// The inlines of the leaf, counted from 1, nest deeper than the limit.
     InlinesTooDeep { leaf: usize },
-    /// A request for memory was refused.
+    /// A request for memory was refused; or a place among the texts, blocks or items of the document needs more
+    /// than 32 bits, which none does within the limits: a byte becomes at most three.
     NoMemory,
     /// The reader failed, or the file couldn't be opened.
     ReadFailed,
@@ -46,16 +47,16 @@ pub enum Fault {
 struct Parts {
     front: &'static str,
     number: Option<u128>,
-    behind: &'static str,
+    beyond: &'static str,
 }
 
 impl Fault {
     /// The parts of its text.
     fn parts(&self) -> Parts
         ensures text { parts_text result ≡ fault_text self.now }
-        ensures short { length result.front.now + length result.behind.now ≤ 80 }
+        ensures short { length result.front.now + length result.beyond.now ≤ 80 }
     {
-        let (front, number, behind) = match *self {
+        let (front, number, beyond) = match *self {
             Fault::NotUtf8 { at } => ("F1 not UTF-8 at byte ", Some(at as u128), ""),
             Fault::TooLong { at } => ("F2 input too long at byte ", Some(at as u128), ""),
             Fault::BlocksTooDeep { line } => ("F3 blocks too deep on line ", Some(line), ""),
@@ -76,7 +77,7 @@ impl Fault {
         Parts {
             front,
             number,
-            behind,
+            beyond,
         }
     }
 
@@ -89,13 +90,13 @@ impl Fault {
         let Parts {
             front,
             number,
-            behind,
+            beyond,
         } = self.parts();
         line.push_str(front);
         if let Some(number) = number {
             line.push_str(Buffer::new().format(number));
         }
-        line.push_str(behind);
+        line.push_str(beyond);
     }
 
     /// The line that the program prints for it: `cmk: `, its text and a line feed. It takes no memory.
@@ -119,8 +120,6 @@ impl fmt::Display for Fault {
         f.write_str(text.as_str())
     }
 }
-
-impl Error for Fault {}
 
 impl From<TextFault> for Fault {
     ghost use Rattle.std.specs.Prelude.{◌≡◌};
@@ -146,8 +145,7 @@ impl From<BlockFault> for Fault {
     fn from(fault: BlockFault) -> Fault {
         match fault {
             BlockFault::BlocksTooDeep { line } => Fault::BlocksTooDeep { line },
-            // No text within the limits is too large.
-            BlockFault::NoMemory | BlockFault::TooLarge => Fault::NoMemory,
+            BlockFault::NoMemory | BlockFault::TooLarge(_) => Fault::NoMemory,
         }
     }
 }

@@ -10,7 +10,7 @@ ghost use Rattle.cm_tool.specs.FaultExamples.{FaultExamples};
 ghost use Rattle.cm_tool.specs.FaultPlaceExamples.{FaultPlaceExamples};
 ghost use Rattle.cm_tool.specs.TextMarkup.{HeadingLevels, TextIsNoMarkup, TextsFromStrangers};
 ghost use Rattle.cm_tool.specs.Within.{NoFaultJustWithin, SpelledWithoutFault};
-ghost use Rattle.cm_tool.specs.steps.FaultOrder.{FaultsInOrder};
+ghost use Rattle.cm_tool.specs.FaultOrder.{FaultsInOrder};
 
 /// Worked examples, by computation.
 pub fn worked_examples()

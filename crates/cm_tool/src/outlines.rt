@@ -24,8 +24,7 @@ use cm_json::JsonText;
 use cm_source::Why;
 use cm_text::{Limits, NoMemory};
 use cm_tree::Doc;
-use document::read_leaves;
-use faults::{check_leaves, first_line_of_leaf};
+use faults::first_line_of_leaf;
 use leaf_walk::LeafWalk;
 use std::alloc::Global;
 
@@ -38,14 +37,8 @@ use std::alloc::Global;
 pub(crate) fn doc_of_outline(alloc: Global, limits: Limits, outline: Outline) -> Result<Doc, Fault>
     ensures { (bytes : List ℕ) → IsOutline limits bytes outline → Finishes result limits bytes }
 {
-    let Outline {
-        blocks,
-        owners,
-        definitions,
-        ..
-    } = outline;
-    let blocks = read_leaves(alloc, limits, definitions, blocks)?;
-    let owners = owners.to_items(alloc)?;
+    let blocks = LeafWalk::new(alloc, limits, outline.definitions, outline.blocks).all_blocks()?;
+    let owners = outline.owners.to_items(alloc)?;
     Ok(Doc { blocks, owners })
 }
 
@@ -64,16 +57,9 @@ pub(crate) fn html_of_outline(
     ensures { (bytes : List ℕ) → IsOutline limits bytes outline
         → Makes (λ pages. pages ≡ converted limits.rules bytes) result limits bytes }
 {
-    let Outline {
-        blocks,
-        owners,
-        definitions,
-        ..
-    } = outline;
     // The HTML is written to the memory of the owners, which it doesn't show.
-    drop(owners);
-    let mut walk = LeafWalk::new(alloc, limits, definitions, blocks);
-    walk.html(room)
+    drop(outline.owners);
+    LeafWalk::new(alloc, limits, outline.definitions, outline.blocks).html(room)
 }
 
 /// The listing of an outline's document, in pages.
@@ -89,14 +75,7 @@ pub(crate) fn listing_of_outline(
     ensures { (bytes : List ℕ) → IsOutline limits bytes outline
         → Makes (λ pages. pages ≡ listed limits.rules bytes) result limits bytes }
 {
-    let Outline {
-        blocks,
-        owners,
-        definitions,
-        ..
-    } = outline;
-    let mut walk = LeafWalk::new(alloc, limits, definitions, blocks);
-    walk.listing(&owners)
+    LeafWalk::new(alloc, limits, outline.definitions, outline.blocks).listing(&outline.owners)
 }
 
 /// The JSON of an outline's document.
@@ -113,14 +92,7 @@ pub(crate) fn json_of_outline(
         → Makes (λ json. (json ≡ in_json limits.rules bytes) × IsTreeInJson limits.rules bytes)
         result limits bytes }
 {
-    let Outline {
-        blocks,
-        owners,
-        definitions,
-        ..
-    } = outline;
-    let mut walk = LeafWalk::new(alloc, limits, definitions, blocks);
-    walk.json(&owners)
+    LeafWalk::new(alloc, limits, outline.definitions, outline.blocks).json(&outline.owners)
 }
 
 /// The plain source of an outline's document without its definitions, or why it can't be spelled.
@@ -136,15 +108,8 @@ pub(crate) fn plain_source_of_outline(
     ensures { (bytes : List ℕ) → IsOutline limits bytes outline
         → Makes (Spelled limits.rules (kept_tree limits.rules bytes)) result limits bytes }
 {
-    let Outline {
-        blocks,
-        owners,
-        definitions,
-        ..
-    } = outline;
-    drop(owners);
-    let mut walk = LeafWalk::new(alloc, limits, definitions, blocks);
-    walk.plain_source(limits.rules())
+    drop(outline.owners);
+    LeafWalk::new(alloc, limits, outline.definitions, outline.blocks).plain_source(limits.rules())
 }
 
 /// The line of an outline's first leaf whose inlines nest deeper than the limit.
@@ -156,16 +121,10 @@ pub(crate) fn line_in_outline(
     ensures { (bytes : List ℕ) → IsOutline limits bytes outline → IfOk result (λ line.
         line ≡ option_and_then (line_of_fault limits.rules bytes) (fault_of limits bytes)) }
 {
-    let Outline {
-        blocks,
-        owners,
-        definitions,
-        ..
-    } = outline;
-    match check_leaves(alloc, limits, definitions, blocks) {
+    match LeafWalk::new(alloc, limits, outline.definitions, outline.blocks).pass_all() {
         Ok(()) => Ok(None),
         Err(Fault::InlinesTooDeep { leaf }) => {
-            Ok(first_line_of_leaf(owners.to_items(alloc)?.as_slice(), leaf))
+            Ok(first_line_of_leaf(outline.owners.to_items(alloc)?.as_slice(), leaf))
         }
         Err(_) => Err(NoMemory),
     }

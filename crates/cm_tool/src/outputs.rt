@@ -1,19 +1,38 @@
-//! The calls that read a source to its end and write one output of its document to a sink.
+//! What a text becomes: the calls that read a source to its end and return its document, or write one output of it
+//! to a sink; and those for a text in memory, or in pieces.
 //!
 //! Nothing is written before the output is whole: the last leaf may nest too deep. Each output is written
 //! with `cm_text::write_all`, and one definition, `Writes`, says what such a call returns.
 ghost use Rattle.std.specs.Prelude.{◌≡◌, ℕ, ◌-◌, ◌^◌, ◌<◌, List};
 ghost use Rattle.std.specs.Io.KnownBytes.{Consumes};
-ghost use Rattle.cm_tool.specs.Rewriting.{Rewrites};
+ghost use Rattle.cm_tool.specs.Reading.{Reads};
+ghost use Rattle.cm_tool.specs.Rewriting.{Rewrites, WritesBack};
 ghost use Rattle.cm_tool.specs.Writing.{Converts, Lists, WritesJson};
+
+mod finishing;
+mod in_memory;
 
 use crate::fault::Fault;
 use crate::outlines::{
-    html_of_outline, json_of_outline, listing_of_outline, plain_source_of_outline,
+    doc_of_outline, html_of_outline, json_of_outline, listing_of_outline, plain_source_of_outline,
 };
-use crate::reading::outline_of;
+use crate::reading::read_outline;
 use cm_text::{Limits, Sink, Source, write_all};
+use cm_tree::Doc;
+pub use in_memory::{doc_of, html_of, json_of, listing_of, source_of};
 use std::alloc::Global;
+
+/// Reads a source to its end and returns the document.
+///
+/// A fault that the bytes settle ends the reading: no read is made after it. So does a failed read.
+pub fn read<R: Source>(alloc: Global, source: &mut R, limits: Limits) -> Result<Doc, Fault>
+    requires { (R.seen source.old).failed < 2 ^ 64 - 1 }
+    ensures { (bytes : List ℕ) × Consumes (R.seen source.old).remaining (R.seen source.new).remaining bytes
+        × Reads result limits bytes (R.seen source.old) (R.seen source.new) }
+{
+    let outline = read_outline(alloc, source, limits)?;
+    doc_of_outline(alloc, limits, outline)
+}
 
 /// Writes the HTML of the source's text, and returns its length in bytes.
 ///
@@ -32,7 +51,7 @@ pub fn convert<R: Source, W: Sink>(
         × Converts result limits bytes (R.seen source.old) (R.seen source.new)
         (W.seen sink.old) (W.seen sink.new) }
 {
-    let outline = outline_of(alloc, source, limits)?;
+    let outline = read_outline(alloc, source, limits)?;
     let html = html_of_outline(alloc, limits, outline, usize::MAX)?;
     Ok(html.write(sink)?)
 }
@@ -54,7 +73,7 @@ pub(crate) fn list<R: Source, W: Sink>(
         × Lists result limits bytes (R.seen source.old) (R.seen source.new)
         (W.seen sink.old) (W.seen sink.new) }
 {
-    let outline = outline_of(alloc, source, limits)?;
+    let outline = read_outline(alloc, source, limits)?;
     let listing = listing_of_outline(alloc, limits, outline)?;
     Ok(listing.write(sink)?)
 }
@@ -76,7 +95,7 @@ pub(crate) fn write_json<R: Source, W: Sink>(
         × WritesJson result limits bytes (R.seen source.old) (R.seen source.new)
         (W.seen sink.old) (W.seen sink.new) }
 {
-    let outline = outline_of(alloc, source, limits)?;
+    let outline = read_outline(alloc, source, limits)?;
     let mut json = json_of_outline(alloc, limits, outline)?;
     json.push_line_feed()?;
     Ok(json.write(sink)?)
@@ -96,11 +115,15 @@ pub fn rewrite<R: Source, W: Sink>(
 ) -> Result<usize, Fault>
     requires reads { (R.seen source.old).failed < 2 ^ 64 - 1 }
     requires writes { (W.seen sink.old).failed < 2 ^ 64 - 1 }
-    ensures { (bytes : List ℕ) × Consumes (R.seen source.old).remaining (R.seen source.new).remaining bytes
+    ensures exact { (bytes : List ℕ) × Consumes (R.seen source.old).remaining (R.seen source.new).remaining bytes
         × Rewrites result limits bytes (R.seen source.old) (R.seen source.new)
         (W.seen sink.old) (W.seen sink.new) }
+    // Which trees are spelled, and how, is in `exact` alone.
+    ensures back { (bytes : List ℕ) × Consumes (R.seen source.old).remaining (R.seen source.new).remaining bytes
+        × WritesBack result limits bytes (R.seen source.old) (R.seen source.new)
+        (W.seen sink.old) (W.seen sink.new) }
 {
-    let outline = outline_of(alloc, source, limits)?;
+    let outline = read_outline(alloc, source, limits)?;
     let text = plain_source_of_outline(alloc, limits, outline)??;
     write_all(sink, text.as_bytes())?;
     Ok(text.len())

@@ -1,20 +1,22 @@
 //! Doing a task, and reporting faults.
-ghost use Rattle.std.specs.Prelude.{◌≡◌, ℕ, ◌-◌, ◌^◌, ◌<◌, List, Result, IfOk, OnErr, OnOk};
+ghost use Rattle.std.specs.Prelude.{◌≡◌, ℕ, ◌-◌, ◌^◌, ◌<◌, List, Result, map, IfOk, OnErr, OnOk};
 ghost use Rattle.std.specs.Prelude.{string_bytes};
 ghost use Rattle.std.specs.Io.KnownBytes.{Consumes};
 ghost use Rattle.cm_text.specs.Writing.{IsUnwritten};
 ghost use Rattle.cm_tool.specs.declared.fault.Fault as faults;
 ghost use Rattle.cm_tool.specs.FaultPlaces.{place_line};
-ghost use Rattle.cm_tool.specs.Running.{Does, Offered, OfferedLine, ReportsDone, RunsTo, Tells};
-ghost use Rattle.cm_tool.specs.Running.{TellsUnopened, no_example_line, unopened_lines};
+ghost use Rattle.cm_tool.specs.Running.{Does, Offered, OfferedLine, RunsTo, Tells, TellsIfNone};
+ghost use Rattle.cm_tool.specs.Running.{TellsNoExample, TellsUnopened, no_example_line, unopened_lines};
+ghost use Rattle.cm_tool.specs.steps.ExampleSteps.{example_of};
 
-use crate::example_files::{OPENING, report};
+use crate::example_files::{Example, OPENING, examples_in, report};
 use crate::fault::{Fault, LINE};
 use crate::outputs::{convert, list, rewrite, write_json};
+use crate::reading::read_text;
 use crate::shown::push_shown;
 use arrayvec::ArrayString;
 use cm_command::{Job, Stop, Task};
-use cm_text::{Sink, Source, WriteFailed, write_all};
+use cm_text::{Limits, Sink, Source, WriteFailed, write_all};
 use itoa::Buffer;
 use std::alloc::{AllocError, Global};
 
@@ -35,29 +37,6 @@ fn tell_fault<E: Sink>(fault: Fault, errors: &mut E) -> u8
 {
     offer(errors, fault.line().as_str().as_bytes());
     1
-}
-
-/// The line about a file without examples. It takes no memory.
-fn no_example_line() -> ArrayString<LINE>
-    ensures { result.bytes ≡ no_example_line }
-{
-    let mut line = ArrayString::new();
-    line.push_str("cmk: no example found; an example starts with the line ");
-    line.push_str(OPENING);
-    line.push_str("\n");
-    line
-}
-
-/// Reports a file of examples that has none, and returns the exit status of a job that is done.
-fn tell_done<E: Sink>(job: Job, count: usize, errors: &mut E) -> u8
-    requires { (E.seen errors.old).failed < 2 ^ 64 - 1 }
-    ensures status { result ≡ 0 }
-    ensures line { ReportsDone job count (E.seen errors.old) (E.seen errors.new) }
-{
-    if matches!(job, Job::Examples) && count == 0 {
-        offer(errors, no_example_line().as_str().as_bytes());
-    }
-    0
 }
 
 /// Does the job of the task.
@@ -82,8 +61,8 @@ fn work<R: Source, W: Sink>(
     }
 }
 
-/// Does the task and returns the exit status: 0, or 1 after a fault, whose line is written to `errors`. If a
-/// file of examples has none, a line about that is written there too. A failure of `errors` is ignored.
+/// Does the task and returns the exit status: 0, or 1 after a fault, whose line is written to `errors`. A
+/// failure of `errors` is ignored.
 pub fn run<R: Source, W: Sink, E: Sink>(
     alloc: Global,
     task: &Task,
@@ -100,7 +79,7 @@ pub fn run<R: Source, W: Sink, E: Sink>(
         (E.seen errors.old) (E.seen errors.new) }
 {
     match work(alloc, task, reader, writer) {
-        Ok(count) => tell_done(task.job, count, errors),
+        Ok(_) => 0,
         Err(fault) => tell_fault(fault, errors),
     }
 }
@@ -124,6 +103,52 @@ pub fn tell<W: Sink, E: Sink>(stop: &Stop, writer: &mut W, errors: &mut E) -> u8
         }
         Stop::NoMemory => tell_fault(Fault::NoMemory, errors),
     }
+}
+
+/// The line about a file without examples. It takes no memory.
+fn no_example_line() -> ArrayString<LINE>
+    ensures { result.bytes ≡ no_example_line }
+{
+    let mut line = ArrayString::new();
+    line.push_str("cmk: no example found; an example starts with the line ");
+    line.push_str(OPENING);
+    line.push_str("\n");
+    line
+}
+
+/// Writes that line, if these examples of a file are none.
+fn tell_if_none<E: Sink>(examples: &[Example], errors: &mut E)
+    requires { (E.seen errors.old).failed < 2 ^ 64 - 1 }
+    ensures { TellsIfNone (map example_of examples.now) (E.seen errors.old) (E.seen errors.new) }
+{
+    match examples {
+        [] => offer(errors, no_example_line().as_str().as_bytes()),
+        [_, ..] => {}
+    }
+}
+
+/// Reads a file of examples, and reports it if it has none. A failure of `errors` is ignored.
+///
+/// # Errors
+///
+/// The fault with which the job on the file would end before the first example is tried. Nothing was written
+/// then.
+pub fn tell_no_example<R: Source, E: Sink>(
+    alloc: Global,
+    limits: Limits,
+    source: &mut R,
+    errors: &mut E,
+) -> Result<(), Fault>
+    requires reads { (R.seen source.old).failed < 2 ^ 64 - 1 }
+    requires tells { (E.seen errors.old).failed < 2 ^ 64 - 1 }
+    ensures { (bytes : List ℕ) × Consumes (R.seen source.old).remaining (R.seen source.new).remaining bytes
+        × TellsNoExample result limits bytes (R.seen source.old) (R.seen source.new)
+        (E.seen errors.old) (E.seen errors.new) }
+{
+    let text = read_text(alloc, source, limits)?;
+    let examples = examples_in(alloc, &text)?;
+    tell_if_none(&examples, errors);
+    Ok(())
 }
 
 /// The lines about a file that can't be opened.

@@ -5,7 +5,10 @@
 #![tactic(auto)]
 
 use cm_text::{FromRead, FromWrite};
-use cm_tool::{Stop, Task, line_of_fault, run, shown_words, task, tell, tell_place, tell_unopened};
+use cm_tool::{
+    Job, Stop, Task, line_of_fault, run, shown_words, task, tell, tell_no_example, tell_place,
+    tell_unopened,
+};
 use std::alloc::Global;
 use std::env::{self, Env};
 use std::fs::File;
@@ -34,7 +37,8 @@ fn asked<R: Env + AllocGlobal>(rt: &R) -> Result<Task, Stop> {
         }
         Err(error) if error.kind() == ErrorKind::OutOfMemory => Err(Stop::NoMemory),
         Err(_) => {
-            let text = "error: the command line is not UTF-8\n";
+            let text =
+                "error: the command line is not UTF-8; read such a file as 'cmk render < FILE'\n";
             Err(Stop::Wrong(String::from_str(rt.alloc(), text)?))
         }
     }
@@ -51,6 +55,16 @@ fn tell_where<F: Read + Seek>(rt: &HostRuntime, task: &Task, name: &str, file: &
     };
     // The fault itself has been reported.
     let _ = tell_place(alloc, name, line, &mut FromWrite::new(rt.stderr()));
+}
+
+/// Reports a file of examples that has none. The file is rewound and read again, so one that can't be rewound
+/// isn't reported.
+fn tell_whether_none<F: Read + Seek>(rt: &HostRuntime, task: &Task, file: &mut F) {
+    if task.job == Job::Examples && file.rewind().is_ok() {
+        let (source, errors) = (&mut FromRead::new(file), &mut FromWrite::new(rt.stderr()));
+        // The job itself is done.
+        let _ = tell_no_example(rt.alloc(), task.limits, source, errors);
+    }
 }
 
 /// Each read and write is one system call, so a count of bytes written is true.
@@ -71,8 +85,9 @@ fn main(rt: HostRuntime) -> ExitCode {
             Ok(mut file) => {
                 let mut input = FromRead::new(&mut file);
                 let status = run(alloc, &task, &mut input, &mut output, &mut errors);
-                if status == 1 {
-                    tell_where(&rt, &task, name, &mut file);
+                match status {
+                    0 => tell_whether_none(&rt, &task, &mut file),
+                    _ => tell_where(&rt, &task, name, &mut file),
                 }
                 status
             }

@@ -1,5 +1,5 @@
 //! The outputs of the calls, each followed by a NUL: HTML, a listing, JSON, or plain source.
-ghost use Rattle.std.specs.Prelude.{◌≡◌, ◌≤◌, ◌^◌, List, ℕ, true, is_some, string_bytes};
+ghost use Rattle.std.specs.Prelude.{◌≡◌, ◌≤◌, ◌^◌, List, ℕ, string_bytes};
 ghost use Rattle.std.specs.Prelude.{IfErr, IfOk, IfSome, OnOk};
 ghost use Rattle.cm_tool.specs.declared.fault.Fault.TheVariants.{NoMemory};
 ghost use Rattle.cm_tool.specs.Faults.{fault_of};
@@ -8,8 +8,6 @@ ghost use Rattle.cm_tool.specs.Rewriting.{rewritten};
 ghost use Rattle.cmk_c.specs.Calls.{Gives, ended, rewriting_fault};
 ghost use Rattle.cmk_c.specs.steps.Places.{HasPlace};
 
-use cm_html::listing;
-use cm_json::json;
 use cm_text::Limits;
 use cm_tool::Fault;
 use std::alloc::Global;
@@ -19,7 +17,6 @@ fn with_nul(text: Option<String>) -> Result<Vec<u8>, Fault>
     ensures value { (output : List ℕ) → IfSome text (λ text. string_bytes text ≡ output)
         → IfOk result (λ made. made.items ≡ ended output) }
     ensures memory { IfErr result (λ fault. fault ≡ NoMemory) }
-    ensures made { OnOk result (is_some text ≡ true) }
 {
     let Some(text) = text else {
         return Err(Fault::NoMemory);
@@ -49,8 +46,8 @@ pub(crate) fn tree_of(alloc: Global, text: &[u8], limits: Limits) -> Result<Vec<
     ensures value { Gives (fault_of limits text.now) (listed limits.rules text.now) result }
     ensures place { IfErr result HasPlace }
 {
-    match cm_tool::doc_of(alloc, text, limits) {
-        Ok(doc) => with_nul(listing(alloc, &doc).ok()),
+    match cm_tool::listing_of(alloc, text, limits) {
+        Ok(pages) => with_nul(pages.into_string().ok()),
         Err(fault) => Err(fault),
     }
 }
@@ -62,8 +59,8 @@ pub(crate) fn json_of(alloc: Global, text: &[u8], limits: Limits) -> Result<Vec<
     ensures is_json { OnOk result (IsTreeInJson limits.rules text.now) }
     ensures place { IfErr result HasPlace }
 {
-    match cm_tool::doc_of(alloc, text, limits) {
-        Ok(doc) => with_nul(json(alloc, &doc).ok()),
+    match cm_tool::json_of(alloc, text, limits) {
+        Ok(json) => with_nul(json.into_string().ok()),
         Err(fault) => Err(fault),
     }
 }

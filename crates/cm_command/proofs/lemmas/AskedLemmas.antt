@@ -1,7 +1,7 @@
 -- How clap reads the words that ask for a job: its name, options in any order, and a file or none.
 use Rattle.std.proofs.Common.{◌≡◌, ◌∙◌, ◌&&◌, ◌||◌, List, [], ◌∷◌, ◌++◌, map, Option, Some, None, Bool, true, false, not, refl, sym, subst, ap, ap₂, append-nil, append_assoc, arith}
 use Rattle.std.specs.Prelude.{codes, cond, find, flat_map, fold, is_some, option_and_then, option_map, slice_get, slice_index_or, string_bytes, unwrap_or, IfSome, ⊤}
-use Rattle.std.specs.List.{AllByRecursion, list_all, list_any}
+use Rattle.std.specs.List.{AllByRecursion}
 use Rattle.std.specs.Option.{option_map_or, option_or}
 use Rattle.std.specs.Str.{bytes_eq}
 use Rattle.std.proofs.lemmas.List.Folds.{find-append, list_any-append}
@@ -13,11 +13,10 @@ use Rattle.clap.specs.declared.error.kind.ErrorKind.TheVariants.{ArgumentConflic
 use Rattle.clap.specs.declared.parser.matches.ValueSource.TheVariants.{CommandLine}
 use Rattle.clap.specs.declared.builder.value_parser.Reading.TheVariants.{AsWritten}
 use Rattle.clap.proofs.OnLiterals.{clap_on_literals}
-use Rattle.cm_text.specs.Limits.{LimitsView}
 use Rattle.cm_command.specs.declared.job.Job.{Job}
 use Rattle.cm_command.specs.declared.job.Job.TheVariants.{Render, Tree, TreeJson, Rewrite, Examples}
 use Rattle.cm_command.specs.declared.job.Task.{Task}
-use Rattle.cm_command.specs.CommandLine.{are_for, are_limits, each_once, file_in, file_named, file_rule, found_for, given_for, hold_an_option, in_form, is_given, is_limit, is_option, is_set, job_in, json_name, limits_at, limits_by, limits_in, limits_of, name_of, number_for, numbers_in, option_of, reads_a_text, rules_in, stops_of, value_of, words_for, words_of, Blocks, Choice, Inlines, IsTaskOf, Json, Set, Flag, Older, Strike, NoHtml, WebLinks, Safe, flag_name, flag_rule, rules_for}
+use Rattle.cm_command.specs.CommandLine.{are_for, are_limits, each_once, file_in, file_named, file_rule, found_for, given_for, hold_an_option, in_form, is_given, is_limit, is_option, is_set, job_in, json_name, limit_name, limits_at, limits_by, limits_from, limits_in, name_of, number_at, number_for, option_of, reads_a_text, rules_in, standard, stops_of, value_of, words_for, words_of, as_number, Bytes, Blocks, Choice, Inlines, IsTaskOf, Json, Limit, Number, Set, Flag, Older, Strike, NoHtml, WebLinks, Safe, flag_name, flag_rule, rules_for}
 use Rattle.cm_command.proofs.lemmas.CommandLineLemmas.{no_dashes, no_long, no_short, plain_limit}
 use Rattle.cm_command.proofs.lemmas.RowLemmas.{first_default, or_assoc, row_by, used_new, with_defaults}
 use Rattle.cm_command.proofs.lemmas.WalkedLemmas.{cmk_built, job_rules, last_rules, takes_json}
@@ -109,8 +108,7 @@ row_for choice = record { id = option_of choice; values = value_of choice ∷ []
 
 -- what an option alone does wrong
 abbrev own_fault : Choice → Kinds
-own_fault (Blocks number) = cond (is_limit number) [] (ValueValidation ∷ [])
-own_fault (Inlines number) = cond (is_limit number) [] (ValueValidation ∷ [])
+own_fault (Number limit number) = cond (is_limit limit number) [] (ValueValidation ∷ [])
 own_fault (Set flag) = []
 own_fault Json = []
 
@@ -181,8 +179,9 @@ still_no : (id : Text) (rows : List Row) (r : Row) → has_row id rows ≡ false
 still_no id rows r new other = list_any-append (λ (x : Row). bytes_eq x.id id) rows (r ∷ []) ∙ both_false _ _ new (both_false _ _ other refl)
 
 no_file : (choice : Choice) → bytes_eq (option_of choice) (codes "file") ≡ false
-no_file (Blocks number) = refl
-no_file (Inlines number) = refl
+no_file (Number Bytes number) = refl
+no_file (Number Blocks number) = refl
+no_file (Number Inlines number) = refl
 no_file (Set Older) = refl
 no_file (Set Strike) = refl
 no_file (Set NoHtml) = refl
@@ -219,16 +218,17 @@ defaults_right rows (a ∷ c) right =
     either false none right = right
 
 -- numbers in their range don't
-limits_plain : (numbers : List Text) → list_all is_limit numbers ≡ true → list_any is_option numbers ≡ false
+limits_plain : (choices : List Choice) → are_limits choices ≡ true → hold_an_option choices ≡ false
 limits_plain [] all = refl
-limits_plain (number ∷ numbers) all =
-    let apart = both_true _ _ all in both_false _ _ (plain_limit number apart.0) (limits_plain numbers apart.1)
+limits_plain (Number limit number ∷ choices) all =
+    let apart = both_true _ _ all in both_false _ _ (plain_limit limit number apart.0) (limits_plain choices apart.1)
+limits_plain (Set flag ∷ choices) all = limits_plain choices all
+limits_plain (Json ∷ choices) all = limits_plain choices all
 
 -- the first number out of its range is what goes wrong
 numbers_fault : (choices : List Choice) → all_fault choices ≡ cond (are_limits choices) [] (ValueValidation ∷ [])
 numbers_fault [] = refl
-numbers_fault (Blocks number ∷ choices) = number_fault (is_limit number) (are_limits choices) (numbers_fault choices)
-numbers_fault (Inlines number ∷ choices) = number_fault (is_limit number) (are_limits choices) (numbers_fault choices)
+numbers_fault (Number limit number ∷ choices) = number_fault (is_limit limit number) (are_limits choices) (numbers_fault choices)
 numbers_fault (Set flag ∷ choices) = numbers_fault choices
 numbers_fault (Json ∷ choices) = numbers_fault choices
 
@@ -255,17 +255,23 @@ value_row name default row is (choice ∷ choices) = go (bytes_eq (option_of cho
 is_true : Option Row → Bool
 is_true row = option_map_or (λ value. bytes_eq value (codes "true")) (text_of row) false
 
--- neither option that takes a number has this name
+-- no option that takes a number has this name
 abbrev IsNoNumber : Text → Type 0
-IsNoNumber name = (bytes_eq (codes "blocks") name ≡ false) × (bytes_eq (codes "inlines") name ≡ false)
+IsNoNumber name = (limit : Limit) → bytes_eq (limit_name limit) name ≡ false
+
+apart_from : (name : Text) → bytes_eq (limit_name Bytes) name ≡ false → bytes_eq (limit_name Blocks) name ≡ false → bytes_eq (limit_name Inlines) name ≡ false
+    → IsNoNumber name
+apart_from name bytes blocks inlines Bytes = bytes
+apart_from name bytes blocks inlines Blocks = blocks
+apart_from name bytes blocks inlines Inlines = inlines
 
 -- no flag has the name of an option that takes a number
 no_number : (flag : Flag) → IsNoNumber (flag_name flag)
-no_number Older = (refl, refl)
-no_number Strike = (refl, refl)
-no_number NoHtml = (refl, refl)
-no_number WebLinks = (refl, refl)
-no_number Safe = (refl, refl)
+no_number Older = apart_from (flag_name Older) refl refl refl
+no_number Strike = apart_from (flag_name Strike) refl refl refl
+no_number NoHtml = apart_from (flag_name NoHtml) refl refl refl
+no_number WebLinks = apart_from (flag_name WebLinks) refl refl refl
+no_number Safe = apart_from (flag_name Safe) refl refl refl
 
 swapped : (a b : Text) → bytes_eq a b ≡ bytes_eq b a
 swapped [] [] = refl
@@ -290,8 +296,7 @@ value_given name other (choice ∷ choices) = at choice (value_given name other 
     at_flag c false is apart rest = past c apart rest
 
     at : (c : Choice) → Given choices → Given (c ∷ choices)
-    at (Blocks number) rest = past (Blocks number) other.0 rest
-    at (Inlines number) rest = past (Inlines number) other.1 rest
+    at (Number limit number) rest = past (Number limit number) (other limit) rest
     at (Set g) rest = at_flag (Set g) (bytes_eq (flag_name g) name) refl refl rest
     at Json rest = at_flag Json (bytes_eq json_name name) refl refl rest
 
@@ -348,15 +353,13 @@ module _ (json : Bool) where
 
   -- the subcommand takes the option, and its number is no option
   abbrev pub IsPlainChoice : Choice → Type 0
-  IsPlainChoice (Blocks number) = is_option number ≡ false
-  IsPlainChoice (Inlines number) = is_option number ≡ false
+  IsPlainChoice (Number limit number) = is_option number ≡ false
   IsPlainChoice (Set flag) = ⊤
   IsPlainChoice Json = json ≡ true
 
   -- what is held after an option
   abbrev after : Choice → Held → Held
-  after (Blocks number) h = record { rows = (settled rules h).rows; pending = Some (codes "blocks", number ∷ []); skip = h.skip }
-  after (Inlines number) h = record { rows = (settled rules h).rows; pending = Some (codes "inlines", number ∷ []); skip = h.skip }
+  after (Number limit number) h = record { rows = (settled rules h).rows; pending = Some (limit_name limit, number ∷ []); skip = h.skip }
   after (Set flag) h = reacted rules (filled (flag_rule (flag_name flag))) [] h
   after Json h = reacted rules (filled (flag_rule json_name)) [] h
 
@@ -367,8 +370,9 @@ module _ (json : Bool) where
   choice_walked : (choice : Choice) (h : Held) (words : List Text) → IsPlainChoice choice
       → fold (walked rules []) (walk_from h) (words_of choice ++ words) ≡ fold (walked rules []) (walk_from (after choice h)) words
   unfolding clap_on_literals
-  choice_walked (Blocks number) h words plain = rw (no_dashes number plain, no_long number plain, no_short number plain) refl
-  choice_walked (Inlines number) h words plain = rw (no_dashes number plain, no_long number plain, no_short number plain) refl
+  choice_walked (Number Bytes number) h words plain = rw (no_dashes number plain, no_long number plain, no_short number plain) refl
+  choice_walked (Number Blocks number) h words plain = rw (no_dashes number plain, no_long number plain, no_short number plain) refl
+  choice_walked (Number Inlines number) h words plain = rw (no_dashes number plain, no_long number plain, no_short number plain) refl
   choice_walked (Set Older) h words plain = refl
   choice_walked (Set Strike) h words plain = refl
   choice_walked (Set NoHtml) h words plain = refl
@@ -378,8 +382,9 @@ module _ (json : Bool) where
       subst (λ b. fold (walked (job_rules b) []) (walk_from h) (words_of Json ++ words) ≡ fold (walked (job_rules b) []) (walk_from (json_held b h)) words) (sym taken) (json_walked h words)
 
   choice_settled : (choice : Choice) (h : Held) → IsNew h choice → (settled rules (after choice h)).rows ≡ (settled rules h).rows ++ row_for choice ∷ []
-  choice_settled (Blocks number) h new = used_new (codes "blocks") (number ∷ []) (settled rules h).rows new
-  choice_settled (Inlines number) h new = used_new (codes "inlines") (number ∷ []) (settled rules h).rows new
+  choice_settled (Number Bytes number) h new = used_new (limit_name Bytes) (number ∷ []) (settled rules h).rows new
+  choice_settled (Number Blocks number) h new = used_new (limit_name Blocks) (number ∷ []) (settled rules h).rows new
+  choice_settled (Number Inlines number) h new = used_new (limit_name Inlines) (number ∷ []) (settled rules h).rows new
   choice_settled (Set flag) h new = used_new (flag_name flag) (codes "true" ∷ []) (settled rules h).rows new
   choice_settled Json h new = used_new json_name (codes "true" ∷ []) (settled rules h).rows new
 
@@ -387,12 +392,15 @@ module _ (json : Bool) where
       → walk_fault (shape name) [] (walk_from h) (words_of choice ++ words)
       ≡ or_else (settle_fault rules false h) (walk_fault (shape name) [] (walk_from (after choice h)) words)
   unfolding clap_on_literals
-  choice_right name (Blocks number) h words plain new =
+  choice_right name (Number Bytes number) h words plain new =
       rw (no_dashes number plain, no_long number plain, no_short number plain)
-      (ap (λ first. or_else first (walk_fault (shape name) [] (walk_from (after (Blocks number) h)) words)) (or_none (settle_fault rules false h)))
-  choice_right name (Inlines number) h words plain new =
+      (ap (λ first. or_else first (walk_fault (shape name) [] (walk_from (after (Number Bytes number) h)) words)) (or_none (settle_fault rules false h)))
+  choice_right name (Number Blocks number) h words plain new =
       rw (no_dashes number plain, no_long number plain, no_short number plain)
-      (ap (λ first. or_else first (walk_fault (shape name) [] (walk_from (after (Inlines number) h)) words)) (or_none (settle_fault rules false h)))
+      (ap (λ first. or_else first (walk_fault (shape name) [] (walk_from (after (Number Blocks number) h)) words)) (or_none (settle_fault rules false h)))
+  choice_right name (Number Inlines number) h words plain new =
+      rw (no_dashes number plain, no_long number plain, no_short number plain)
+      (ap (λ first. or_else first (walk_fault (shape name) [] (walk_from (after (Number Inlines number) h)) words)) (or_none (settle_fault rules false h)))
   choice_right name Json h words taken new = json_right json taken name h words new
   choice_right name (Set flag) h words plain new = by_flag flag (flag_turn (settle_fault rules false h)
       (walk_fault (shape name) [] (walk_from (after (Set flag) h)) words) (has_row (flag_name flag) (settled rules h).rows) new)
@@ -411,8 +419,9 @@ module _ (json : Bool) where
       by_flag Safe turn = turn
 
   choice_pending : (choice : Choice) (h : Held) → IsNew h choice → settle_fault rules false (after choice h) ≡ own_fault choice
-  choice_pending (Blocks number) h new = number_turn (has_row (codes "blocks") (settled rules h).rows) (is_limit number) new
-  choice_pending (Inlines number) h new = number_turn (has_row (codes "inlines") (settled rules h).rows) (is_limit number) new
+  choice_pending (Number Bytes number) h new = number_turn (has_row (limit_name Bytes) (settled rules h).rows) (is_limit Bytes number) new
+  choice_pending (Number Blocks number) h new = number_turn (has_row (limit_name Blocks) (settled rules h).rows) (is_limit Blocks number) new
+  choice_pending (Number Inlines number) h new = number_turn (has_row (limit_name Inlines) (settled rules h).rows) (is_limit Inlines number) new
   choice_pending (Set flag) h new = refl
   choice_pending Json h new = refl
 
@@ -503,7 +512,7 @@ module _ (json : Bool) where
   -- ---- defaults at the end
 
   job_defaults_right : AllByRecursion HasRightDefault rules
-  job_defaults_right = (refl, (refl, (refl, (refl, (refl, (refl, (refl, (refl, last_defaults_right json))))))))
+  job_defaults_right = (refl, (refl, (refl, (refl, (refl, (refl, (refl, (refl, (refl, last_defaults_right json)))))))))
 
   level_right : (name : Text) (words : List Text) → level_fault (shape name) [] nothing_held words false [] ≡ whole_fault name nothing_held words
   level_right name words =
@@ -516,8 +525,13 @@ module _ (json : Bool) where
   -- where no number is an option, the options are plain
   plain_numbers : (choices : List Choice) → hold_an_option choices ≡ false → (is_given json_name choices ≡ true → json ≡ true) → ArePlain choices
   plain_numbers [] plain taken = tt
-  plain_numbers (Blocks number ∷ choices) plain taken = let apart = either_false _ _ plain in (apart.0, plain_numbers choices apart.1 taken)
-  plain_numbers (Inlines number ∷ choices) plain taken = let apart = either_false _ _ plain in (apart.0, plain_numbers choices apart.1 taken)
+  plain_numbers (Number limit number ∷ choices) plain taken =
+      let apart = either_false _ _ plain in (apart.0, plain_numbers choices apart.1 (λ given. taken (by_number limit given)))
+    where
+      by_number : (l : Limit) → is_given json_name choices ≡ true → is_given json_name (Number l number ∷ choices) ≡ true
+      by_number Bytes given = given
+      by_number Blocks given = given
+      by_number Inlines given = given
   plain_numbers (Set flag ∷ choices) plain taken = (tt, plain_numbers choices plain (λ given. taken (by_flag flag given)))
     where
       by_flag : (f : Flag) → is_given json_name choices ≡ true → is_given json_name (Set f ∷ choices) ≡ true
@@ -551,24 +565,24 @@ module _ (json : Bool) where
       either None = refl
       either (Some t) = refl
 
-  -- an option that takes a number has the one that is given, or its default
-  end_number : (name : Text) (choices : List Choice) (file : Option Text)
-      → text_of (option_or (row_by name (file_rows file)) (first_default name rules)) ≡ Some (codes "100")
-      → first_of name (end_rows choices file) ≡ Some (number_for name choices)
+  limit_default : (limit : Limit) (file : Option Text)
+      → text_of (option_or (row_by (limit_name limit) (file_rows file)) (first_default (limit_name limit) rules)) ≡ Some (standard limit)
   unfolding text_of
-  end_number name choices file default =
-      ap text_of (end_row name choices file (row_by name (map row_for choices)) refl)
-      ∙ value_row name (codes "100") (option_or (row_by name (file_rows file)) (first_default name rules)) default choices
+  limit_default Bytes None = refl
+  limit_default Bytes (Some f) = refl
+  limit_default Blocks None = refl
+  limit_default Blocks (Some f) = refl
+  limit_default Inlines None = refl
+  limit_default Inlines (Some f) = refl
 
-  blocks_default : (file : Option Text) → text_of (option_or (row_by (codes "blocks") (file_rows file)) (first_default (codes "blocks") rules)) ≡ Some (codes "100")
+  -- a limit has the number that is given, or the standard one
+  end_number : (limit : Limit) (choices : List Choice) (file : Option Text) → number_at limit (end_rows choices file) ≡ Some (number_for limit choices)
   unfolding text_of
-  blocks_default None = refl
-  blocks_default (Some f) = refl
-
-  inlines_default : (file : Option Text) → text_of (option_or (row_by (codes "inlines") (file_rows file)) (first_default (codes "inlines") rules)) ≡ Some (codes "100")
-  unfolding text_of
-  inlines_default None = refl
-  inlines_default (Some f) = refl
+  end_number limit choices file =
+      let name = limit_name limit in
+      ap (option_map as_number)
+      (ap text_of (end_row name choices file (row_by name (map row_for choices)) refl)
+      ∙ value_row name (standard limit) (option_or (row_by name (file_rows file)) (first_default name rules)) (limit_default limit file) choices)
 
   flag_default : (flag : Flag) (file : Option Text)
       → text_of (option_or (row_by (flag_name flag) (file_rows file)) (first_default (flag_name flag) rules)) ≡ Some (codes "false")
@@ -601,9 +615,8 @@ module _ (json : Bool) where
   end_limits : (choices : List Choice) (file : Option Text) → limits_at (end_rows choices file) ≡ limits_by choices
   end_limits choices file =
       let rows = end_rows choices file in
-      let both : Option Text → Option Text → Option LimitsView = λ blocks inlines. option_and_then (λ b. option_and_then (limits_of (rules_in rows) b) inlines) blocks in
-      ap₂ both (end_number (codes "blocks") choices file (blocks_default file)) (end_number (codes "inlines") choices file (inlines_default file))
-      ∙ (λ i. limits_of (rules_for (λ flag. end_flag choices file flag i)) (number_for (codes "blocks") choices) (number_for (codes "inlines") choices))
+      ap₂ (λ bytes blocks. limits_from (rules_in rows) bytes blocks (number_at Inlines rows)) (end_number Bytes choices file) (end_number Blocks choices file)
+      ∙ (λ i. limits_from (rules_for (λ flag. end_flag choices file flag i)) (Some (number_for Bytes choices)) (Some (number_for Blocks choices)) (end_number Inlines choices file i))
 
 -- ---- the words that ask for a job
 
@@ -630,7 +643,7 @@ pub asked_right : (name : Text) (job : Job) (choices : List Choice) (file : Opti
     → each_once choices ≡ true → are_limits choices ≡ true → IfSome file (λ f. is_option f ≡ false)
     → stops_of (name ∷ words_for job choices file) ≡ []
 asked_right name job choices file text meant once numbers plain =
-    asked_fault name job choices file text once (asked_plain job choices meant (limits_plain (numbers_in choices) numbers)) plain
+    asked_fault name job choices file text once (asked_plain job choices meant (limits_plain choices numbers)) plain
     ∙ numbers_fault choices ∙ ap (λ b. cond b [] (ValueValidation ∷ [])) numbers
 
 pub asked_wrong : (name : Text) (job : Job) (choices : List Choice) (file : Option Text) → reads_a_text job ≡ true → are_for job choices ≡ true
@@ -655,7 +668,7 @@ asked_found name job choices file text once plain plain_file =
 
 -- `--json` is set where it is given
 end_json : (choices : List Choice) (file : Option Text) → is_set json_name (end_rows true choices file) ≡ is_given json_name choices
-end_json choices file = end_set true json_name (refl, refl) choices file (json_default file)
+end_json choices file = end_set true json_name (apart_from json_name refl refl refl) choices file (json_default file)
 
 -- the job that is found is the one that is asked for
 asked_job : (job : Job) (choices : List Choice) (file : Option Text) → are_for job choices ≡ true
@@ -678,7 +691,7 @@ pub asked_task : (name : Text) (job : Job) (choices : List Choice) (file : Optio
     → (task.job ≡ job) × (option_map string_bytes task.file ≡ option_and_then file_named file) × (Some task.limits ≡ limits_by choices)
 asked_task name job choices file task text meant once numbers plain is =
     let json = takes_json job in
-    let found = asked_found name job choices file text once (asked_plain job choices meant (limits_plain (numbers_in choices) numbers)) plain in (
+    let found = asked_found name job choices file text once (asked_plain job choices meant (limits_plain choices numbers)) plain in (
       ap (λ (o : Option Job). unwrap_or o job) (sym is.job ∙ ap job_in found ∙ asked_job job choices file meant),
       sym is.file ∙ ap file_in found ∙ ap (option_and_then file_named) (end_file json choices file),
       sym is.limits ∙ ap limits_in found ∙ of_text job json text ∙ end_limits json choices file,

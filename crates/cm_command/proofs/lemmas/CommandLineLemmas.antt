@@ -1,7 +1,6 @@
 -- How clap reads the command line of cmk.
 use Rattle.std.proofs.Common.{◌≡◌, ◌∙◌, ◌≤◌, ◌^◌, ℕ, List, [], ◌∷◌, Some, None, refl, ap, ap₂, sym, subst, inl, inr, bytes_eq, arith, Option, true, false, ◌||◌}
 use Rattle.std.specs.Prelude.{◌⊎◌, ⊤, Result, Err, ◌==◌, ◌&&◌, codes, cond, option_and_then, option_map, unwrap_or, Bool, IsSomeAnd}
-use Rattle.std.specs.Option.{option_map_or}
 use Rattle.std.proofs.lemmas.Bool.{eqb-true, le-leb}
 use Rattle.std.specs.Str.Parse.{ParsesUnsigned, ExplainsUnsignedError, HasUnsignedDigitsIfOk, digits_value, without_leading_plus}
 use Rattle.std.specs.declared.num.ParseIntError.{ParseIntError}
@@ -11,7 +10,7 @@ use Rattle.clap.proofs.OnLiterals.{clap_on_literals}
 use Rattle.clap.specs.declared.builder.value_parser.ValueParser.TheVariants.{Unsigned}
 use Rattle.clap.proofs.ValueTestLemmas.{accepts-Accepts}
 use Rattle.clap.specs.declared.error.kind.ErrorKind.TheVariants.{ValueValidation}
-use Rattle.cm_text.specs.Limits.{LimitsView, limits_for}
+use Rattle.cm_text.specs.Limits.{limits_for}
 use Rattle.cm_text.specs.Rules.{profile}
 use Rattle.clap.specs.Lexer.{long_of, long_of_rest, short_of, short_of_rest, strip_byte}
 use Rattle.clap.specs.declared.parser.matches.ArgMatches.{ArgMatches}
@@ -25,7 +24,7 @@ use Rattle.cm_command.specs.declared.job.Job.{Job}
 use Rattle.cm_command.specs.declared.job.Job.TheVariants.{Tree}
 use Rattle.cm_command.specs.declared.job.Stop.{Stop}
 use Rattle.cm_command.specs.declared.job.Stop.TheVariants.{Help, Wrong, NoMemory}
-use Rattle.cm_command.specs.CommandLine.{Found, IsMistake, StopsBy, as_number, cmk_app, file_named, is_limit, is_option, is_set, job_of, json_name, limits_for_job}
+use Rattle.cm_command.specs.CommandLine.{Found, IsMistake, Limit, StopsBy, as_number, cmk_app, file_named, is_limit, most, is_option, is_set, job_of, json_name, limits_for_job}
 use Rattle.cm_command.specs.steps.Arguments.{IsJob, IsRead, OptionsAreRead, fits}
 use Rattle.std.proofs.lemmas.Slice.Eq.{bytes_eq-Decides}
 
@@ -42,32 +41,36 @@ abbrev pub Gives : Text → Result ℕ ParseIntError → Type 0
 Gives t r = ParsesUnsigned 64 10 t r × ExplainsUnsignedError 10 t r × HasUnsignedDigitsIfOk t r
 
 -- a number in its range is read as that number
-pub read_in_range : (text : Text) (r : Option ℕ) → ReadsOne Gives text r → is_limit text ≡ true
-    → (n : ℕ) × (r ≡ Some n) × (n ≡ digits_value 10 (without_leading_plus text)) × (1 ≤ n) × (n ≤ 500)
-read_in_range text (Some n) read in_range =
-    let passed : IsUnsignedIn 1 500 text = accepts-Accepts false (Unsigned 1 500) text in_range in
+pub read_in_range : (limit : Limit) (text : Text) (r : Option ℕ) → ReadsOne Gives text r → is_limit limit text ≡ true
+    → (n : ℕ) × (r ≡ Some n) × (n ≡ digits_value 10 (without_leading_plus text)) × (1 ≤ n) × (n ≤ most limit)
+read_in_range limit text (Some n) read in_range =
+    let passed : IsUnsignedIn 1 (most limit) text = accepts-Accepts false (Unsigned 1 (most limit)) text in_range in
     let value = read.0.1 in
     (n, refl, value, rw value passed.2, rw value passed.3)
-read_in_range text None read in_range =
-    let passed : IsUnsignedIn 1 500 text = accepts-Accepts false (Unsigned 1 500) text in_range in
+read_in_range limit text None read in_range =
+    let passed : IsUnsignedIn 1 (most limit) text = accepts-Accepts false (Unsigned 1 (most limit)) text in_range in
     absurd (read.1.0 (passed.0, passed.1))
 
 -- what was read is the number as it is written
-pub number_read : (text : Text) (r : Option ℕ) (n : ℕ) → ReadsOne Gives text r → is_limit text ≡ true → r ≡ Some n
-    → (as_number text ≡ n) × (1 ≤ n) × (n ≤ 500)
-number_read text r n read in_range is =
-    let got = read_in_range text r read in_range in
+pub number_read : (limit : Limit) (text : Text) (r : Option ℕ) (n : ℕ) → ReadsOne Gives text r → is_limit limit text ≡ true → r ≡ Some n
+    → (as_number text ≡ n) × (1 ≤ n) × (n ≤ most limit)
+number_read limit text r n read in_range is =
+    let got = read_in_range limit text r read in_range in
     let same : got.0 ≡ n = ap (λ (o : Option ℕ). unwrap_or o 0) (sym got.1 ∙ is) in
-    (sym got.2 ∙ same, subst (λ k. 1 ≤ k) same got.3, subst (λ k. k ≤ 500) same got.4)
+    (sym got.2 ∙ same, subst (λ k. 1 ≤ k) same got.3, subst (λ k. k ≤ most limit) same got.4)
 
--- numbers in their range give the standard limits with them
-pub limits_made : (bytes blocks inlines : ℕ) → bytes ≡ 2 ^ 28 → 1 ≤ blocks → blocks ≤ 500 → 1 ≤ inlines → inlines ≤ 500
-    → limits_for bytes blocks inlines ≡ Some (record { bytes = 2 ^ 28; blocks = blocks; inlines = inlines; rules = profile })
-limits_made bytes blocks inlines bytes_are low high inlines_low inlines_high =
-    rw (bytes_are, le-leb 1 blocks low, le-leb blocks 500 high, le-leb 1 inlines inlines_low, le-leb inlines 500 inlines_high) refl
-
-pub standard_bytes : (l : LimitsView) → Some l ≡ limits_for (2 ^ 28) 100 100 → l.bytes ≡ 2 ^ 28
-standard_bytes l is = ap (λ (o : Option LimitsView). option_map_or (λ x. x.bytes) o 0) is
+-- numbers in their ranges give the limits with them
+pub limits_made : (bytes blocks inlines : ℕ) → (1 ≤ bytes) × (bytes ≤ 2 ^ 30) → (1 ≤ blocks) × (blocks ≤ 500) → (1 ≤ inlines) × (inlines ≤ 500)
+    → limits_for bytes blocks inlines ≡ Some (record { bytes = bytes; blocks = blocks; inlines = inlines; rules = profile })
+limits_made bytes blocks inlines of_bytes of_blocks of_inlines =
+    rw (
+      le-leb 1 bytes of_bytes.0,
+      le-leb bytes (2 ^ 30) of_bytes.1,
+      le-leb 1 blocks of_blocks.0,
+      le-leb blocks 500 of_blocks.1,
+      le-leb 1 inlines of_inlines.0,
+      le-leb inlines 500 of_inlines.1,
+    ) refl
 
 -- the name of a subcommand is that of what is found
 name_found : (matches : ArgMatches) → subcommand_name_of matches ≡ option_map (λ (f : Found). f.0) (subcommand_rows_of matches)
@@ -161,14 +164,14 @@ no_short (b ∷ []) plain = alone (b == 45)
 no_short (b ∷ next ∷ bs) plain = rw (plain) refl
 
 -- a number is no option
-pub plain_limit : (word : Text) → is_limit word ≡ true → is_option word ≡ false
-plain_limit [] in_range = refl
-plain_limit (b ∷ []) in_range = refl
-plain_limit (b ∷ next ∷ bs) in_range = first (b == 45) refl
+pub plain_limit : (limit : Limit) (word : Text) → is_limit limit word ≡ true → is_option word ≡ false
+plain_limit limit [] in_range = refl
+plain_limit limit (b ∷ []) in_range = refl
+plain_limit limit (b ∷ next ∷ bs) in_range = first (b == 45) refl
   where
     first : (is : Bool) → (b == 45) ≡ is → (b == 45) ≡ false
     first true same =
-        let passed : IsUnsignedIn 1 500 (45 ∷ next ∷ bs) = accepts-Accepts false (Unsigned 1 500) (45 ∷ next ∷ bs) (rw (eqb-true b 45 same) at in_range) in
+        let passed : IsUnsignedIn 1 (most limit) (45 ∷ next ∷ bs) = accepts-Accepts false (Unsigned 1 (most limit)) (45 ∷ next ∷ bs) (rw (eqb-true b 45 same) at in_range) in
         let digit = passed.0.1.0 in
         absurd (omega arith)
     first false same = same

@@ -19,7 +19,7 @@ use Rattle.clap.specs.declared.parser.matches.ValueSource.{ValueSource}
 use Rattle.clap.specs.declared.parser.matches.ValueSource.TheVariants.{CommandLine, DefaultValue}
 use Rattle.cm_command.specs.declared.job.Job.{Job}
 use Rattle.cm_command.specs.declared.job.Job.TheVariants.{Render, Tree, TreeJson, Rewrite, Examples}
-use Rattle.cm_command.specs.CommandLine.{cmk_app, examples_app, file_rule, flag_name, flag_rule, found_for, is_limit, json_name, limit_rule, job_of, reads_a_text, stops_of, Flag, Older, Strike, NoHtml, WebLinks, Safe}
+use Rattle.cm_command.specs.CommandLine.{cmk_app, examples_app, file_rule, flag_name, flag_rule, found_for, is_limit, json_name, Limit, Bytes, Blocks, Inlines, limit_name, limit_rule, most, job_of, reads_a_text, stops_of, Flag, Older, Strike, NoHtml, WebLinks, Safe}
 use Rattle.cm_command.specs.steps.Arguments.{IsJob, AreRead, FlagsAreRead, IsRead, fits}
 use Rattle.cm_command.proofs.lemmas.RowLemmas.{first_default, row_by, with_defaults}
 
@@ -90,15 +90,15 @@ file_fine : (needed : Bool) → IsFineRule (with_index 1 (filled (record file_ru
 file_fine needed again [] rows none fine = absurd (cc)
 file_fine needed again (v ∷ vs) rows none fine = set_fine (codes "file") (v ∷ vs) rows refl fine
 
-limit_fine : (name : Text) → ((value : Text) → fits name value ≡ is_limit value) → IsFineRule (filled (limit_rule name))
-limit_fine name fit again values rows none fine = set_fine name _ rows (in_range values none) fine
+limit_fine : (limit : Limit) → ((value : Text) → fits (limit_name limit) value ≡ is_limit limit value) → IsFineRule (filled (limit_rule limit))
+limit_fine limit fit again values rows none fine = set_fine (limit_name limit) _ rows (in_range values none) fine
   where
-    in_range : (vs : List Text) → use_fault again (filled (limit_rule name)) vs rows ≡ [] → FirstFits name (values_or_missing (filled (limit_rule name)) vs)
+    in_range : (vs : List Text) → use_fault again (filled (limit_rule limit)) vs rows ≡ [] → FirstFits (limit_name limit) (values_or_missing (filled (limit_rule limit)) vs)
     in_range [] none = cc
     in_range (v ∷ vs) none =
         let set = no_second (range_kinds 1 1 (length (v ∷ vs))) _ none in
-        let value = no_second (repeat_fault again name rows) _ set in
-        fit v ∙ passes (is_limit v) _ (no_first (value_kinds false (Unsigned 1 500) v) _ value)
+        let value = no_second (repeat_fault again (limit_name limit) rows) _ set in
+        fit v ∙ passes (is_limit limit v) _ (no_first (value_kinds false (Unsigned 1 (most limit)) v) _ value)
 
 flag_fine : (name : Text) → fits name (codes "true") ≡ true → IsFineRule (filled (flag_rule name))
 flag_fine name fit again [] rows none fine = set_fine name (codes "true" ∷ []) rows fit fine
@@ -341,7 +341,7 @@ last_rules false = filled help_rule ∷ []
 -- the rules of a job's subcommand, once it is built
 abbrev pub job_rules : (json : Bool) → List Rule
 job_rules json =
-    with_index 1 (filled file_rule) ∷ filled (limit_rule (codes "blocks")) ∷ filled (limit_rule (codes "inlines")) ∷ flag_rules (last_rules json)
+    with_index 1 (filled file_rule) ∷ filled (limit_rule Bytes) ∷ filled (limit_rule Blocks) ∷ filled (limit_rule Inlines) ∷ flag_rules (last_rules json)
 
 -- the subcommand of a job has `--json`
 abbrev pub takes_json : Job → Bool
@@ -364,14 +364,14 @@ last_rules_fine false = (help_fine, tt)
 
 job_rules_fine : (json : Bool) → AllByRecursion IsFineRule (job_rules json)
 job_rules_fine json =
-    (file_fine false, (limit_fine (codes "blocks") (λ v. refl), (limit_fine (codes "inlines") (λ v. refl), flags_fine (last_rules json) (last_rules_fine json))))
+    (file_fine false, (limit_fine Bytes (λ v. refl), (limit_fine Blocks (λ v. refl), (limit_fine Inlines (λ v. refl), flags_fine (last_rules json) (last_rules_fine json)))))
 
 last_defaults_fine : (json : Bool) → AllByRecursion HasFineDefault (last_rules json)
 last_defaults_fine true = ((refl, refl), ((refl, tt), tt))
 last_defaults_fine false = ((refl, tt), tt)
 
 job_defaults_fine : (json : Bool) → AllByRecursion HasFineDefault (job_rules json)
-job_defaults_fine json = ((refl, tt), ((refl, refl), ((refl, refl), flags_default (last_rules json) (last_defaults_fine json))))
+job_defaults_fine json = ((refl, tt), ((refl, refl), ((refl, refl), ((refl, refl), flags_default (last_rules json) (last_defaults_fine json)))))
 
 -- those of the subcommand `examples`
 abbrev example_rules : List Rule
@@ -404,6 +404,14 @@ job_default json NoHtml = refl
 job_default json WebLinks = refl
 job_default json Safe = refl
 
+abbrev LimitDefault : Limit → List Rule → Type 0
+LimitDefault limit rules = is_some (first_default (limit_name limit) rules) ≡ true
+
+limit_default : (json : Bool) (limit : Limit) → LimitDefault limit (job_rules json)
+limit_default json Bytes = refl
+limit_default json Blocks = refl
+limit_default json Inlines = refl
+
 example_default : (flag : Flag) → FlagDefault flag example_rules
 example_default Older = refl
 example_default Strike = refl
@@ -418,8 +426,7 @@ job_options json s words rules none =
     let of_job = subst (AllByRecursion IsFineRule) (sym rules) (job_rules_fine json) in
     let defaults = subst (AllByRecursion HasFineDefault) (sym rules) (job_defaults_fine json) in
     record {
-      blocks = option_read (codes "blocks") s words of_job defaults (rw (rules) refl) none;
-      inlines = option_read (codes "inlines") s words of_job defaults (rw (rules) refl) none;
+      limits = λ limit. option_read (limit_name limit) s words of_job defaults (subst (LimitDefault limit) (sym rules) (limit_default json limit)) none;
       flags = λ flag. option_read (flag_name flag) s words of_job defaults (subst (FlagDefault flag) (sym rules) (job_default json flag)) none;
     }
 

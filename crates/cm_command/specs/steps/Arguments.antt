@@ -4,13 +4,14 @@ use Rattle.std.specs.Str.{bytes_eq}
 use Rattle.clap.specs.Words.{Row, Text, first_of, one_of}
 use Rattle.cm_command.specs.declared.job.Job.{Job}
 use Rattle.cm_command.specs.declared.job.Job.TheVariants.{Examples, Tree}
-use Rattle.cm_command.specs.CommandLine.{Flag, Found, flag_name, is_limit, job_of, json_name}
+use Rattle.cm_command.specs.CommandLine.{Flag, Found, Limit, Bytes, Blocks, Inlines, flag_name, is_limit, job_of, json_name, limit_name}
 
 -- the value fits the argument of this name: a number in its range, `true` or `false`, or any text
 abbrev pub fits : Text → Text → Bool
 fits name value =
-    if bytes_eq name (codes "blocks") then is_limit value
-    else if bytes_eq name (codes "inlines") then is_limit value
+    if bytes_eq name (codes "bytes") then is_limit Bytes value
+    else if bytes_eq name (codes "blocks") then is_limit Blocks value
+    else if bytes_eq name (codes "inlines") then is_limit Inlines value
     else if bytes_eq name (codes "file") then true
     else bytes_eq value (codes "true") || bytes_eq value (codes "false")
 
@@ -27,8 +28,7 @@ FlagsAreRead rows = (flag : Flag) → IsRead (flag_name flag) rows
 
 -- the options of a subcommand that reads a text have values that fit them
 pub record AreRead (rows : List Row) : Type 0 where
-  pub blocks : IsRead (codes "blocks") rows
-  pub inlines : IsRead (codes "inlines") rows
+  pub limits : (limit : Limit) → IsRead (limit_name limit) rows
   pub flags : FlagsAreRead rows
 
 -- the options of a job's subcommand have values that fit them

@@ -10,8 +10,7 @@ use Rattle.cm_tree.specs.Depth.{greatest, block_depth_step, depth_of_block, bloc
 use Rattle.cm_tree.specs.steps.ItemSteps.{items_depth}
 use Rattle.cm_tree.specs.declared.tree.Block.{Block}
 use Rattle.cm_tree.specs.declared.tree.Block.TheFolds.{fold_out-Block}
-use Rattle.cm_tree.specs.declared.tree.Block.TheVariants.{Quote, List as ListBlock, outs-Paragraph, outs-Heading, outs-Code, outs-Html, outs-Break, outs-Definition, outs-Quote, outs-List}
-use Rattle.cm_tree.specs.declared.tree.ListKind.{ListKind}
+use Rattle.cm_tree.specs.declared.tree.Block.TheVariants.{Quote, List as ListBlock, outs-Paragraph, outs-Heading, outs-Code, outs-Html, outs-Break, outs-Definition}
 use Rattle.cm_scan.specs.inlines.Brackets.{Defined}
 use Rattle.cm_scan.specs.blocks.Parts.{LeafPart, paragraph, heading, code, html, thematic_break, definition, Parts, none, blank, leaf, quote, list, ItemParts, last_item, item, leaf_block, is_loose, blocks_of_parts, blocks_of_items, depths_of, item_depths_of}
 use Rattle.cm_scan.specs.blocks.Blocks.{parts_of, blocks_of, first_too_deep}
@@ -21,8 +20,7 @@ use Rattle.cm_scan.specs.laws.Looseness.{line_total, items_total, HaveLines, Ite
 use Rattle.cm_scan.proofs.lemmas.blocks.CountedLines.{parts_have_lines}
 use Rattle.cm_scan.proofs.lemmas.blocks.OwnersOfLines.{length-replicate}
 use Rattle.cm_block.proofs.lemmas.Depths.{position-cons}
-use Rattle.cm_tool.proofs.lemmas.RawWalkLemmas.{list_read}
-use Rattle.cm_tool.proofs.lemmas.OwnerLemmas.{quote-read}
+use Rattle.cm_tree.proofs.lemmas.BlockFolds as block_fold
 
 -- ---- the greatest of some numbers
 
@@ -87,12 +85,6 @@ counted p xs = by (position p xs) ∙ placed p 1 xs
 
 -- ---- blocks inside of blocks
 
-pub depth_quote : (blocks : List Block) → depth_of_block (Quote blocks) ≡ blocks_depth blocks + 1
-depth_quote blocks = simp (fold_out-Block ℕ block_depth_step, outs-Quote)
-
-pub depth_list : (kind : ListKind) (tight : Bool) (items : List (List Block)) → depth_of_block (ListBlock kind tight items) ≡ items_depth items
-depth_list kind tight items = simp (fold_out-Block ℕ block_depth_step, outs-List)
-
 -- each line has a depth
 mutual
   unfolding depths_of item_depths_of line_total items_total
@@ -142,12 +134,12 @@ module _ (rules : Rules) (defined : Defined) where
         omega (arith, greatest_append (replicate lines 0) (depths_of rest), greatest-zeros lines, leaf-depth x, deepest rest have.1)
     deepest (quote inside rest) have =
         let one : depth_of_block (block_read rules defined (Quote (blocks_of_parts inside))) ≡ blocks_depth (with_inlines rules defined (blocks_of_parts inside)) + 1 =
-        ap depth_of_block (quote-read rules defined (blocks_of_parts inside)) ∙ depth_quote (with_inlines rules defined (blocks_of_parts inside)) in
+        ap depth_of_block (block_fold.quote (read_step rules defined) (blocks_of_parts inside)) ∙ block_fold.quote block_depth_step (with_inlines rules defined (blocks_of_parts inside)) in
         omega (arith, greatest_append (map suc (depths_of inside)) (depths_of rest), inside-depth inside _ have.0 (deepest inside have.1), one, deepest rest have.2)
     deepest (list kind items rest) have =
         let tight = not (is_loose items) in
         let one : depth_of_block (block_read rules defined (ListBlock kind tight (blocks_of_items items))) ≡ items_depth (map (with_inlines rules defined) (blocks_of_items items)) =
-        ap depth_of_block (list_read rules defined kind tight (blocks_of_items items)) ∙ depth_list kind tight (map (with_inlines rules defined) (blocks_of_items items)) in
+        ap depth_of_block (block_fold.list (read_step rules defined) kind tight (blocks_of_items items)) ∙ block_fold.list block_depth_step kind tight (map (with_inlines rules defined) (blocks_of_items items)) in
         omega (arith, greatest_append (item_depths_of items) (depths_of rest), items-deepest items have.0, one, deepest rest have.1)
 
     items-deepest : (items : ItemParts) → ItemsHaveLines items → greatest (item_depths_of items) ≡ items_depth (map (with_inlines rules defined) (blocks_of_items items))

@@ -29,33 +29,33 @@ one_more : (line other : List ℕ) (lines : List (List ℕ)) → bytes_eq other 
 one_more line other lines differs none =
     All-cons (λ x. x ≢ line) other lines (λ same. true≢false (sym ((bytes_eq-Decides other line).1 same) ∙ differs)) none
 
-none_before : (line : List ℕ) (before behind : List (List ℕ)) → NoneIs line (before ++ behind) → NoneIs line before
-none_before line [] behind none = All-nil (λ x. x ≢ line)
-none_before line (other ∷ before) behind none =
-    All-cons (λ x. x ≢ line) other before (first_apart line other (before ++ behind) none)
-    (none_before line before behind (others_differ line other (before ++ behind) none))
+none_before : (line : List ℕ) (before beyond : List (List ℕ)) → NoneIs line (before ++ beyond) → NoneIs line before
+none_before line [] beyond none = All-nil (λ x. x ≢ line)
+none_before line (other ∷ before) beyond none =
+    All-cons (λ x. x ≢ line) other before (first_apart line other (before ++ beyond) none)
+    (none_before line before beyond (others_differ line other (before ++ beyond) none))
 
-none_behind : (line : List ℕ) (before behind : List (List ℕ)) → NoneIs line (before ++ behind) → NoneIs line behind
-none_behind line [] behind none = none
-none_behind line (other ∷ before) behind none = none_behind line before behind (others_differ line other (before ++ behind) none)
+none_beyond : (line : List ℕ) (before beyond : List (List ℕ)) → NoneIs line (before ++ beyond) → NoneIs line beyond
+none_beyond line [] beyond none = none
+none_beyond line (other ∷ before) beyond none = none_beyond line before beyond (others_differ line other (before ++ beyond) none)
 
 -- the first line that is this one, among others
 record FirstPlace (line : List ℕ) (lines : List (List ℕ)) : Type 0 where
   before : List (List ℕ)
-  behind : List (List ℕ)
+  beyond : List (List ℕ)
   none : NoneIs line before
-  is : lines ≡ before ++ line ∷ behind
+  is : lines ≡ before ++ line ∷ beyond
 
 first : (line : List ℕ) (lines : List (List ℕ)) → NoneIs line lines ⊎ FirstPlace line lines
 first line [] = inl (All-nil (λ x. x ≢ line))
 first line (other ∷ lines) = go (bytes_eq other line) refl (first line lines)
   where
     go : (b : Bool) → bytes_eq other line ≡ b → NoneIs line lines ⊎ FirstPlace line lines → NoneIs line (other ∷ lines) ⊎ FirstPlace line (other ∷ lines)
-    go true is more = inr (record { before = []; behind = lines; none = All-nil (λ x. x ≢ line); is = ap (λ x. x ∷ lines) ((bytes_eq-Decides other line).0 is) })
+    go true is more = inr (record { before = []; beyond = lines; none = All-nil (λ x. x ≢ line); is = ap (λ x. x ∷ lines) ((bytes_eq-Decides other line).0 is) })
     go false differs (inl none) = inl (one_more line other lines differs none)
     go false differs (inr at) = inr (record {
       before = other ∷ at.before;
-      behind = at.behind;
+      beyond = at.beyond;
       none = one_more line other at.before differs at.none;
       is = ap (λ ls. other ∷ ls) at.is;
     })
@@ -141,8 +141,8 @@ module _ (opened : ℕ) where
       more = examples_from (InSource opened (so_far ++ example_line line)) (number + 1) (source ++ closing_line ∷ lines)
 
       go : (is_closing : Bool) → more ≡ Err opened → elim is_closing as (λ _. found) [ true ↦ Err opened | false ↦ more ] ≡ Err opened
-      go true behind = refl
-      go false behind = behind
+      go true beyond = refl
+      go false beyond = beyond
 
 -- ---- an example
 
@@ -186,32 +186,32 @@ module _ (told : Telling) (tells : TellsExamples told) where
   after_opening number lines more = by_closing (first closing_line lines)
     where
       by_middle : (closing : FirstPlace closing_line lines) → NoneIs middle_line closing.before ⊎ FirstPlace middle_line closing.before
-          → told number (opening_line ∷ closing.before ++ closing_line ∷ closing.behind)
-          ≡ examples_of_lines number (opening_line ∷ closing.before ++ closing_line ∷ closing.behind)
+          → told number (opening_line ∷ closing.before ++ closing_line ∷ closing.beyond)
+          ≡ examples_of_lines number (opening_line ∷ closing.before ++ closing_line ∷ closing.beyond)
       by_middle closing (inl none) =
-          tells.closed_early number closing.before closing.behind none ∙ sym (examples_are_told.closed_early number closing.before closing.behind none)
+          tells.closed_early number closing.before closing.beyond none ∙ sym (examples_are_told.closed_early number closing.before closing.beyond none)
       by_middle closing (inr middle) =
           ap (told number) are
-          ∙ tells.example_in_front number middle.before middle.behind closing.behind middle.none in_source in_html
-          ∙ ap (put_example (example_with middle.before middle.behind)) (more (number + length (example_lines middle.before middle.behind)) closing.behind shorter)
-          ∙ sym (examples_are_told.example_in_front number middle.before middle.behind closing.behind middle.none in_source in_html)
+          ∙ tells.example_in_front number middle.before middle.beyond closing.beyond middle.none in_source in_html
+          ∙ ap (put_example (example_with middle.before middle.beyond)) (more (number + length (example_lines middle.before middle.beyond)) closing.beyond shorter)
+          ∙ sym (examples_are_told.example_in_front number middle.before middle.beyond closing.beyond middle.none in_source in_html)
           ∙ sym (ap (examples_of_lines number) are)
         where
-          are : opening_line ∷ closing.before ++ closing_line ∷ closing.behind ≡ example_lines middle.before middle.behind ++ closing.behind
-          are = ap (λ ls. opening_line ∷ ls ++ closing_line ∷ closing.behind) middle.is
-              ∙ sym (append_assoc (opening_line ∷ middle.before ++ middle_line ∷ middle.behind) (closing_line ∷ []) closing.behind)
+          are : opening_line ∷ closing.before ++ closing_line ∷ closing.beyond ≡ example_lines middle.before middle.beyond ++ closing.beyond
+          are = ap (λ ls. opening_line ∷ ls ++ closing_line ∷ closing.beyond) middle.is
+              ∙ sym (append_assoc (opening_line ∷ middle.before ++ middle_line ∷ middle.beyond) (closing_line ∷ []) closing.beyond)
 
-          apart : NoneIs closing_line (middle.before ++ middle_line ∷ middle.behind)
+          apart : NoneIs closing_line (middle.before ++ middle_line ∷ middle.beyond)
           apart = subst (NoneIs closing_line) middle.is closing.none
 
           in_source : NoneIs closing_line middle.before
-          in_source = none_before closing_line middle.before (middle_line ∷ middle.behind) apart
+          in_source = none_before closing_line middle.before (middle_line ∷ middle.beyond) apart
 
-          in_html : NoneIs closing_line middle.behind
-          in_html = others_differ closing_line middle_line middle.behind (none_behind closing_line middle.before (middle_line ∷ middle.behind) apart)
+          in_html : NoneIs closing_line middle.beyond
+          in_html = others_differ closing_line middle_line middle.beyond (none_beyond closing_line middle.before (middle_line ∷ middle.beyond) apart)
 
-          shorter : length closing.behind ≤ length lines
-          shorter = omega (arith, ap length closing.is, length-append closing.before (closing_line ∷ closing.behind))
+          shorter : length closing.beyond ≤ length lines
+          shorter = omega (arith, ap length closing.is, length-append closing.before (closing_line ∷ closing.beyond))
 
       by_closing : NoneIs closing_line lines ⊎ FirstPlace closing_line lines → told number (opening_line ∷ lines) ≡ examples_of_lines number (opening_line ∷ lines)
       by_closing (inl none) = tells.unclosed number lines none ∙ sym (examples_are_told.unclosed number lines none)
@@ -230,10 +230,10 @@ module _ (told : Telling) (tells : TellsExamples told) where
       go (inl none) more = tells.no_examples number lines none ∙ sym (examples_are_told.no_examples number lines none)
       go (inr opening) more =
           ap (told number) opening.is
-          ∙ tells.passed_over number opening.before (opening_line ∷ opening.behind) opening.none
-          ∙ after_opening (number + length opening.before) opening.behind
-          (λ n rest fits. more n rest (omega (arith, fits, small, ap length opening.is, length-append opening.before (opening_line ∷ opening.behind))))
-          ∙ sym (examples_are_told.passed_over number opening.before (opening_line ∷ opening.behind) opening.none)
+          ∙ tells.passed_over number opening.before (opening_line ∷ opening.beyond) opening.none
+          ∙ after_opening (number + length opening.before) opening.beyond
+          (λ n rest fits. more n rest (omega (arith, fits, small, ap length opening.is, length-append opening.before (opening_line ∷ opening.beyond))))
+          ∙ sym (examples_are_told.passed_over number opening.before (opening_line ∷ opening.beyond) opening.none)
           ∙ sym (ap (examples_of_lines number) opening.is)
 
 pub examples_are_determined : ExamplesAreDetermined

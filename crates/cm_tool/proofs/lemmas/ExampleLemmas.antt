@@ -26,11 +26,11 @@ use Rattle.cm_tool.specs.steps.ExampleSteps.{Part, example_of, part_from}
 -- what comes of a file whose source is this, and of one whose HTML is this
 abbrev after_source : ℕ → Option Part → Result (List Example) ℕ
 after_source opened None = Err opened
-after_source opened (Some part) = examples_from (InHtml opened part.text []) part.number part.behind
+after_source opened (Some part) = examples_from (InHtml opened part.text []) part.number part.beyond
 
 abbrev after_html : ℕ → List ℕ → Option Part → Result (List Example) ℕ
 after_html opened source None = Err opened
-after_html opened source (Some part) = put_example (record { source = source; html = part.text }) (examples_from Outside part.number part.behind)
+after_html opened source (Some part) = put_example (record { source = source; html = part.text }) (examples_from Outside part.number part.beyond)
 
 abbrev found : Type 0
 found = Result (List Example) ℕ
@@ -48,7 +48,7 @@ source_taken opened number so_far (line ∷ lines) =
     part = part_from middle_line (so_far ++ example_line line) (number + 1) lines
 
     here : Option Part
-    here = Some (record { text = so_far; number = number + 1; behind = lines })
+    here = Some (record { text = so_far; number = number + 1; beyond = lines })
 
     go : (is_middle is_closing : Bool) → more ≡ after_source opened part
         → elim is_middle as (λ _. found) [ true ↦ examples_from (InHtml opened so_far []) (number + 1) lines | false ↦ elim is_closing as (λ _. found) [ true ↦ Err opened | false ↦ more ] ]
@@ -70,7 +70,7 @@ html_taken opened number source so_far (line ∷ lines) =
     part = part_from closing_line (so_far ++ example_line line) (number + 1) lines
 
     here : Option Part
-    here = Some (record { text = so_far; number = number + 1; behind = lines })
+    here = Some (record { text = so_far; number = number + 1; beyond = lines })
 
     done : found
     done = put_example (record { source = source; html = so_far }) (examples_from Outside (number + 1) lines)
@@ -86,7 +86,7 @@ module _ {T : Type 0} (f : T → Part) (o : Option T) (opened number : ℕ) (lin
   no_source is none = source_taken opened number [] lines ∙ ap (after_source opened) (sym is ∙ ap (option_map f) none)
 
   pub with_source : (t : T) → option_map f o ≡ part_from middle_line [] number lines → o ≡ Some t
-      → examples_from (InSource opened []) number lines ≡ examples_from (InHtml opened (f t).text []) (f t).number (f t).behind
+      → examples_from (InSource opened []) number lines ≡ examples_from (InHtml opened (f t).text []) (f t).number (f t).beyond
   with_source t is some = source_taken opened number [] lines ∙ ap (after_source opened) (sym is ∙ ap (option_map f) some)
 
   pub no_html : (source : List ℕ) → option_map f o ≡ part_from closing_line [] number lines → o ≡ None → examples_from (InHtml opened source []) number lines ≡ Err opened
@@ -94,24 +94,24 @@ module _ {T : Type 0} (f : T → Part) (o : Option T) (opened number : ℕ) (lin
 
   pub with_html : (t : T) (source : List ℕ) → option_map f o ≡ part_from closing_line [] number lines → o ≡ Some t
       → examples_from (InHtml opened source []) number lines
-      ≡ put_example (record { source = source; html = (f t).text }) (examples_from Outside (f t).number (f t).behind)
+      ≡ put_example (record { source = source; html = (f t).text }) (examples_from Outside (f t).number (f t).beyond)
   with_html t source is some = html_taken opened number source [] lines ∙ ap (after_html opened source) (sym is ∙ ap (option_map f) some)
 
 -- what is left of a text after a character is a text
-pub rest_utf8 : (rest behind : List ℕ) (c : ℕ) → IsUtf8 rest → rest ≡ encode c ++ behind → IsUtf8 behind
-rest_utf8 rest behind c u is = go u.0 u.1.0 (sym is ∙ sym u.1.1)
+pub rest_utf8 : (rest beyond : List ℕ) (c : ℕ) → IsUtf8 rest → rest ≡ encode c ++ beyond → IsUtf8 beyond
+rest_utf8 rest beyond c u is = go u.0 u.1.0 (sym is ∙ sym u.1.1)
   where
-    go : (cs : List ℕ) → scalars cs ≡ true → encode c ++ behind ≡ encodes cs → IsUtf8 behind
-    go [] all same = absurd (omega (arith, ap length same, length-append (encode c) behind, length-encode c, (len_utf8_bounds c).0))
-    go (d ∷ ds) all same = (ds, ((and_parts _ _ all).1, sym (encode_same c d behind (encodes ds) same).1))
+    go : (cs : List ℕ) → scalars cs ≡ true → encode c ++ beyond ≡ encodes cs → IsUtf8 beyond
+    go [] all same = absurd (omega (arith, ap length same, length-append (encode c) beyond, length-encode c, (len_utf8_bounds c).0))
+    go (d ∷ ds) all same = (ds, ((and_parts _ _ all).1, sym (encode_same c d beyond (encodes ds) same).1))
 
 -- one character of a line
-pub char_put : (made rest behind whole : List ℕ) (c put : ℕ) → IsUtf8 rest → rest ≡ encode c ++ behind → put ≡ tab_for_arrow c
-    → made ++ example_line rest ≡ whole → (made ++ encode put) ++ example_line behind ≡ whole
-char_put made rest behind whole c put utf8 is put_is so_far =
-    append_assoc made (encode put) (example_line behind)
-    ∙ ap (λ t. made ++ t) (ap (λ p. encode p ++ example_line behind) put_is ∙ sym (append_assoc (encode (tab_for_arrow c)) (encodes (map tab_for_arrow (chars behind))) (10 ∷ []))
-    ∙ ap (λ cs. encodes (map tab_for_arrow cs) ++ 10 ∷ []) (sym (chars_past_char rest behind c utf8 is)))
+pub char_put : (made rest beyond whole : List ℕ) (c put : ℕ) → IsUtf8 rest → rest ≡ encode c ++ beyond → put ≡ tab_for_arrow c
+    → made ++ example_line rest ≡ whole → (made ++ encode put) ++ example_line beyond ≡ whole
+char_put made rest beyond whole c put utf8 is put_is so_far =
+    append_assoc made (encode put) (example_line beyond)
+    ∙ ap (λ t. made ++ t) (ap (λ p. encode p ++ example_line beyond) put_is ∙ sym (append_assoc (encode (tab_for_arrow c)) (encodes (map tab_for_arrow (chars beyond))) (10 ∷ []))
+    ∙ ap (λ cs. encodes (map tab_for_arrow cs) ++ 10 ∷ []) (sym (chars_past_char rest beyond c utf8 is)))
     ∙ so_far
 
 pub is_arrow : (c : ℕ) → c ≡ 0x2192 → 9 ≡ tab_for_arrow c
@@ -141,27 +141,27 @@ pub record SoFar (rules : Rules) (examples : List code.Example) (agree : ℕ) (d
 
 module _ (rules : Rules) (examples : List code.Example) (agree : ℕ) (differ : List Difference) (at : ℕ) (e : code.Example)
     (next : drop at examples ≡ e ∷ drop (at + 1) examples) (so_far : SoFar rules examples agree differ at) where
-  abbrev behind : List Example
-  behind = map example_of (drop (at + 1) examples)
+  abbrev beyond : List Example
+  beyond = map example_of (drop (at + 1) examples)
 
-  sound_next : fault_of (standard_limits rules) (string_bytes e.source) ≡ None → first_fault rules behind ≡ first_fault rules (map example_of examples)
+  sound_next : fault_of (standard_limits rules) (string_bytes e.source) ≡ None → first_fault rules beyond ≡ first_fault rules (map example_of examples)
   sound_next none =
-      ap (λ o. option_or o (first_fault rules behind)) (sym none) ∙ ap (λ xs. first_fault rules (map example_of xs)) (sym next) ∙ so_far.sound
+      ap (λ o. option_or o (first_fault rules beyond)) (sym none) ∙ ap (λ xs. first_fault rules (map example_of xs)) (sym next) ∙ so_far.sound
 
   counted : (b : Bool) → agrees rules (example_of e) ≡ b
-      → agree + (cond b 1 0 + count_by (agrees rules) behind) ≡ count_by (agrees rules) (map example_of examples)
+      → agree + (cond b 1 0 + count_by (agrees rules) beyond) ≡ count_by (agrees rules) (map example_of examples)
   counted b is =
-      ap (λ v. agree + (cond v 1 0 + count_by (agrees rules) behind)) (sym is)
-      ∙ ap (λ n. agree + n) (sym (sum_by-cons (λ x. cond (agrees rules x) 1 0) (example_of e) behind))
+      ap (λ v. agree + (cond v 1 0 + count_by (agrees rules) beyond)) (sym is)
+      ∙ ap (λ n. agree + n) (sym (sum_by-cons (λ x. cond (agrees rules x) 1 0) (example_of e) beyond))
       ∙ ap (λ xs. agree + count_by (agrees rules) (map example_of xs)) (sym next) ∙ so_far.agreed
 
   abbrev pub told : DifferenceView
   told = record { number = at + 1; expected = string_bytes e.html; got = converted rules (string_bytes e.source) }
 
   listed : (b : Bool) → agrees rules (example_of e) ≡ b
-      → map difference_of differ ++ (cond b [] (told ∷ []) ++ differences_from rules (at + 1 + 1) behind) ≡ differences_from rules 1 (map example_of examples)
+      → map difference_of differ ++ (cond b [] (told ∷ []) ++ differences_from rules (at + 1 + 1) beyond) ≡ differences_from rules 1 (map example_of examples)
   listed b is =
-      ap (λ v. map difference_of differ ++ (cond v [] (told ∷ []) ++ differences_from rules (at + 1 + 1) behind)) (sym is)
+      ap (λ v. map difference_of differ ++ (cond v [] (told ∷ []) ++ differences_from rules (at + 1 + 1) beyond)) (sym is)
       ∙ ap (λ xs. map difference_of differ ++ differences_from rules (at + 1) (map example_of xs)) (sym next) ∙ so_far.differed
 
   -- one more agrees
@@ -181,8 +181,8 @@ module _ (rules : Rules) (examples : List code.Example) (agree : ℕ) (differ : 
     bound = omega (arith, so_far.bound);
     agreed = omega (arith, counted false is);
     sound = sound_next none;
-    differed = ap (λ t. t ++ differences_from rules (at + 1 + 1) behind) more_are
-        ∙ append_assoc (map difference_of differ) (told ∷ []) (differences_from rules (at + 1 + 1) behind) ∙ listed false is;
+    differed = ap (λ t. t ++ differences_from rules (at + 1 + 1) beyond) more_are
+        ∙ append_assoc (map difference_of differ) (told ∷ []) (differences_from rules (at + 1 + 1) beyond) ∙ listed false is;
   }
 
   -- one has a fault
@@ -191,7 +191,7 @@ module _ (rules : Rules) (examples : List code.Example) (agree : ℕ) (differ : 
     where
       first : (fault : Fault) → fault_of (standard_limits rules) (string_bytes e.source) ≡ Some fault → first_fault rules (map example_of examples) ≡ Some fault
       first fault is =
-          sym so_far.sound ∙ ap (λ xs. first_fault rules (map example_of xs)) next ∙ ap (λ o. option_or o (first_fault rules behind)) is
+          sym so_far.sound ∙ ap (λ xs. first_fault rules (map example_of xs)) next ∙ ap (λ o. option_or o (first_fault rules beyond)) is
 
 -- the element at a place, and what is after it
 pub drop_at : {X : Type 0} (xs : List X) (k : ℕ) (d : X) → k < length xs → d ≡ get_or xs k d → drop k xs ≡ d ∷ drop (k + 1) xs

@@ -2,12 +2,11 @@
 use Rattle.std.proofs.Common.{◌≡◌, ◌∙◌, ℕ, ◌≤◌, Bool, true, false, not, cond, List, [], ◌∷◌, map, None, refl, sym, ap, subst, arith}
 use Rattle.std.specs.Prelude.{IsUtf8}
 use Rattle.cm_text.specs.Limits.{LimitsView}
-use Rattle.cm_tree.specs.Depth.{greatest, depth_of_block, blocks_depth}
+use Rattle.cm_tree.specs.Depth.{greatest, depth_of_block, blocks_depth, block_depth_step}
 use Rattle.cm_tree.specs.steps.ItemSteps.{items_depth}
-use Rattle.cm_tree.specs.declared.tree.ListKind.{ListKind}
 use Rattle.cm_tree.specs.declared.tree.Block.{Block}
 use Rattle.cm_tree.specs.declared.tree.Block.TheFolds.{fold_out-Block}
-use Rattle.cm_tree.specs.declared.tree.Block.TheVariants.{Paragraph, Heading, Code, Html, Break, Definition, Quote, List as ListBlock, outs-Paragraph, outs-Heading, outs-Code, outs-Html, outs-Break, outs-Definition, outs-Quote, outs-List}
+use Rattle.cm_tree.specs.declared.tree.Block.TheVariants.{Paragraph, Heading, Code, Html, Break, Definition, Quote, List as ListBlock, outs-Paragraph, outs-Heading, outs-Code, outs-Html, outs-Break, outs-Definition, outs-Quote}
 use Rattle.cm_scan.specs.Documents.{tree_of}
 use Rattle.cm_source.specs.Definitions.{is_definition, cleared, cleared_step, kept, without_definitions}
 use Rattle.cm_source.specs.Refusals.{IsSpellable}
@@ -16,11 +15,13 @@ use Rattle.cm_source.proofs.lemmas.shared.BlockInduction.{AllHold, ItemsHold, Ca
 use Rattle.cm_source.proofs.lemmas.spelling.WithoutDefinitions.{list_cleared}
 use Rattle.cm_source.proofs.lemmas.DocumentsBack.{trees_read_back}
 use Rattle.cm_tool.specs.Faults.{fault_of}
-use Rattle.cm_tool.specs.Leaves.{depths_in, depths_step, concat_items, leaf_depths}
+use Rattle.std.specs.List.{concat, flat_map}
+use Rattle.cm_tool.specs.Leaves.{depths_in, depths_step, leaf_depths}
 use Rattle.cm_tool.specs.Rewriting.{IsLasting, kept_tree, rewritten}
 use Rattle.cm_tool.specs.Within.{IsWithin}
-use Rattle.cm_tool.proofs.lemmas.DepthLemmas.{greatest_append, depth_quote, depth_list}
+use Rattle.cm_tool.proofs.lemmas.DepthLemmas.{greatest_append}
 use Rattle.cm_tool.proofs.lemmas.WithinLemmas.{no_fault_just_within, spelled_without_fault}
+use Rattle.cm_tree.proofs.lemmas.BlockFolds as block_fold
 
 -- one more block, whether it is a definition or not
 kept-more : (c : Block) (cs : List Block) → cleared c ≡ c → kept (map cleared (kept cs)) ≡ kept cs → kept (map cleared (kept (c ∷ cs))) ≡ kept (c ∷ cs)
@@ -98,7 +99,7 @@ all-no-deeper [] h = (omega arith, omega arith)
 all-no-deeper (b ∷ bs) h = let more = all-no-deeper bs h.1 in one-more (cleared b) b (map cleared bs) bs h.0.0 h.0.1 more.0 more.1
 
 items-no-deeper : (items : List (List Block)) → ItemsHold IsNoDeeper items → (items_depth (map without_definitions items) ≤ items_depth items)
-    × (greatest (concat_items (map (map depths_in) (map without_definitions items))) ≤ greatest (concat_items (map (map depths_in) items)))
+    × (greatest (flat_map concat (map (map depths_in) (map without_definitions items))) ≤ greatest (flat_map concat (map (map depths_in) items)))
 unfolding ItemsHold
 items-no-deeper [] h = (omega arith, omega arith)
 items-no-deeper (item ∷ items) h =
@@ -109,16 +110,10 @@ items-no-deeper (item ∷ items) h =
         arith,
         one.1,
         more.1,
-        greatest_append (leaf_depths (without_definitions item)) (concat_items (map (map depths_in) (map without_definitions items))),
-        greatest_append (leaf_depths item) (concat_items (map (map depths_in) items)),
+        greatest_append (leaf_depths (without_definitions item)) (flat_map concat (map (map depths_in) (map without_definitions items))),
+        greatest_append (leaf_depths item) (flat_map concat (map (map depths_in) items)),
       ),
     )
-
-leaves-of-quote : (bs : List Block) → depths_in (Quote bs) ≡ leaf_depths bs
-leaves-of-quote bs = simp (fold_out-Block (List ℕ) depths_step, outs-Quote)
-
-leaves-of-list : (kind : ListKind) (tight : Bool) (items : List (List Block)) → depths_in (ListBlock kind tight items) ≡ concat_items (map (map depths_in) items)
-leaves-of-list kind tight items = simp (fold_out-Block (List ℕ) depths_step, outs-List)
 
 as-deep : (b : Block) → cleared b ≡ b → IsNoDeeper b
 as-deep b same = subst (λ c. (depth_of_block c ≤ depth_of_block b) × (greatest (depths_in c) ≤ greatest (depths_in b))) (sym same) (omega arith, omega arith)
@@ -133,14 +128,14 @@ no-deeper = record {
   definition = λ label dest title. as-deep (Definition label dest title) (simp (fold_out-Block Block cleared_step, outs-Definition) refl);
   quote = λ bs h.
       let within = all-no-deeper bs h in (
-        omega (arith, within.0, ap depth_of_block (quote-cleared bs) ∙ depth_quote (without_definitions bs), depth_quote bs),
-        omega (arith, within.1, ap (λ b. greatest (depths_in b)) (quote-cleared bs) ∙ ap greatest (leaves-of-quote (without_definitions bs)), ap greatest (leaves-of-quote bs)),
+        omega (arith, within.0, ap depth_of_block (quote-cleared bs) ∙ block_fold.quote block_depth_step (without_definitions bs), block_fold.quote block_depth_step bs),
+        omega (arith, within.1, ap (λ b. greatest (depths_in b)) (quote-cleared bs) ∙ ap greatest (block_fold.quote depths_step (without_definitions bs)), ap greatest (block_fold.quote depths_step bs)),
       );
   list = λ kind tight items h.
       let within = items-no-deeper items h in
       let clear = map without_definitions items in (
-        omega (arith, within.0, ap depth_of_block (list_cleared kind tight items) ∙ depth_list kind tight clear, depth_list kind tight items),
-        omega (arith, within.1, ap (λ b. greatest (depths_in b)) (list_cleared kind tight items) ∙ ap greatest (leaves-of-list kind tight clear), ap greatest (leaves-of-list kind tight items)),
+        omega (arith, within.0, ap depth_of_block (list_cleared kind tight items) ∙ block_fold.list block_depth_step kind tight clear, block_fold.list block_depth_step kind tight items),
+        omega (arith, within.1, ap (λ b. greatest (depths_in b)) (list_cleared kind tight items) ∙ ap greatest (block_fold.list depths_step kind tight clear), ap greatest (block_fold.list depths_step kind tight items)),
       );
 }
 

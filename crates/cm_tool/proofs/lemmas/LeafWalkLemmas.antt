@@ -33,12 +33,12 @@ abbrev pub Reads : (first now : LeafWalk) → (whole rest : List ℕ) → Type 0
 Reads first now whole rest = (now.unread ≡ first.unread) × Left first.unread.limits.inlines first.next now.next whole rest
 
 module _ (first now : LeafWalk) (whole some rest all : List ℕ) (is : all ≡ some ++ rest) (so_far : Reads first now whole all) where
-  pub reads_next : (behind : LeafWalk) → HasRead now behind some → Reads first behind whole rest
-  reads_next behind has = (
+  pub reads_next : (after : LeafWalk) → HasRead now after some → Reads first after whole rest
+  reads_next after has = (
     has.0 ∙ so_far.0,
-    left_next first.unread.limits.inlines first.next now.next behind.next whole some rest
+    left_next first.unread.limits.inlines first.next now.next after.next whole some rest
         (subst (Left first.unread.limits.inlines first.next now.next whole) is so_far.1)
-        (subst (λ unread. Passes unread.limits.inlines now.next behind.next some) so_far.0 has.1),
+        (subst (λ unread. Passes unread.limits.inlines now.next after.next some) so_far.0 has.1),
   )
 
   pub reads_told : (fault : Fault) → TellsOf now fault some → TellsOf first fault whole
@@ -60,12 +60,12 @@ module _ (walk : LeafWalk) (limits : LimitsView) (blocks : List Block) (first : 
       (subst (λ n. TellsLeaf fault walk.unread.limits.inlines n (leaf_depths blocks)) first
       (subst (λ blocks. TellsLeaf fault walk.unread.limits.inlines walk.next (leaf_depths blocks)) is told)))
 
-  pub begun_within : (behind : ℕ) → Passes walk.unread.limits.inlines walk.next behind (leaf_depths (all_left walk.unread)) → first_leaf_past limits.inlines blocks ≡ None
-  begun_within behind passes =
-      none_past limits.inlines behind (leaf_depths blocks)
-      (subst (λ (l : LimitsView). Passes l.inlines 1 behind (leaf_depths blocks)) same
-      (subst (λ n. Passes walk.unread.limits.inlines n behind (leaf_depths blocks)) first
-      (subst (λ blocks. Passes walk.unread.limits.inlines walk.next behind (leaf_depths blocks)) is passes)))
+  pub begun_within : (after : ℕ) → Passes walk.unread.limits.inlines walk.next after (leaf_depths (all_left walk.unread)) → first_leaf_past limits.inlines blocks ≡ None
+  begun_within after passes =
+      none_past limits.inlines after (leaf_depths blocks)
+      (subst (λ (l : LimitsView). Passes l.inlines 1 after (leaf_depths blocks)) same
+      (subst (λ n. Passes walk.unread.limits.inlines n after (leaf_depths blocks)) first
+      (subst (λ blocks. Passes walk.unread.limits.inlines walk.next after (leaf_depths blocks)) is passes)))
 
   -- what a call that walks over all of them says
   module _ {A : Type 0} (r : Result A Fault) where
@@ -121,8 +121,8 @@ module _ (first now : LeafWalk) (from at to : ℕ) (begins : from ≤ at) (less 
     block_told = reads_told first now (leaf_depths (blocks_read_at first.unread from to)) (depths_in (block_read_of now.unread block))
         (leaf_depths (blocks_read_at first.unread (at + 1) to)) (leaf_depths (blocks_read_at first.unread at to)) next_block so_far
 
-    pub block_next : (behind : LeafWalk) → HasRead now behind (depths_in (block_read_of now.unread block))
-        → Reads first behind (leaf_depths (blocks_read_at first.unread from to)) (leaf_depths (blocks_read_at first.unread (at + 1) to))
+    pub block_next : (after : LeafWalk) → HasRead now after (depths_in (block_read_of now.unread block))
+        → Reads first after (leaf_depths (blocks_read_at first.unread from to)) (leaf_depths (blocks_read_at first.unread (at + 1) to))
     block_next = reads_next first now (leaf_depths (blocks_read_at first.unread from to)) (depths_in (block_read_of now.unread block))
         (leaf_depths (blocks_read_at first.unread (at + 1) to)) (leaf_depths (blocks_read_at first.unread at to)) next_block so_far
 
@@ -137,8 +137,8 @@ module _ (first now : LeafWalk) (from at to : ℕ) (begins : from ≤ at) (less 
     item_told = reads_told first now (items_leaf_depths (items_read_at first.unread from to)) (leaf_depths (blocks_read_at now.unread item.from item.to))
         (items_leaf_depths (items_read_at first.unread (at + 1) to)) (items_leaf_depths (items_read_at first.unread at to)) next_item so_far
 
-    pub item_next : (behind : LeafWalk) → HasRead now behind (leaf_depths (blocks_read_at now.unread item.from item.to))
-        → Reads first behind (items_leaf_depths (items_read_at first.unread from to)) (items_leaf_depths (items_read_at first.unread (at + 1) to))
+    pub item_next : (after : LeafWalk) → HasRead now after (leaf_depths (blocks_read_at now.unread item.from item.to))
+        → Reads first after (items_leaf_depths (items_read_at first.unread from to)) (items_leaf_depths (items_read_at first.unread (at + 1) to))
     item_next = reads_next first now (items_leaf_depths (items_read_at first.unread from to)) (leaf_depths (blocks_read_at now.unread item.from item.to))
         (items_leaf_depths (items_read_at first.unread (at + 1) to)) (items_leaf_depths (items_read_at first.unread at to)) next_item so_far
 
@@ -175,13 +175,13 @@ module _ (now : LeafWalk) (unread : Unread) (block : RawBlock) (limits : unread.
   left : Left now.unread.limits.inlines now.next now.next (leaf_depths (all_left now.unread)) (some ++ rest)
   left = λ more. ap (λ blocks. first_past now.unread.limits.inlines now.next (leaf_depths blocks ++ more)) is
 
-  pub one_read : (behind : LeafWalk) → ArePlacedLeft unread → behind.unread ≡ unread → Passes unread.limits.inlines now.next behind.next some → HasReadSome now behind
-  one_read behind placed same passes = record {
+  pub one_read : (after : LeafWalk) → ArePlacedLeft unread → after.unread ≡ unread → Passes unread.limits.inlines now.next after.next some → HasReadSome now after
+  one_read after placed same passes = record {
     limits = ap (λ unread. unread.limits) same ∙ limits;
     placed = subst ArePlacedLeft (sym same) placed;
-    leaves = subst (λ unread. Left now.unread.limits.inlines now.next behind.next (leaf_depths (all_left now.unread)) (leaf_depths (all_left unread))) (sym same)
-        (left_next now.unread.limits.inlines now.next now.next behind.next (leaf_depths (all_left now.unread)) some rest left
-        (subst (λ limits. Passes limits.inlines now.next behind.next some) limits passes));
+    leaves = subst (λ unread. Left now.unread.limits.inlines now.next after.next (leaf_depths (all_left now.unread)) (leaf_depths (all_left unread))) (sym same)
+        (left_next now.unread.limits.inlines now.next now.next after.next (leaf_depths (all_left now.unread)) some rest left
+        (subst (λ limits. Passes limits.inlines now.next after.next some) limits passes));
   }
 
   pub one_told : (fault : Fault) → TellsLeaf fault unread.limits.inlines now.next some → TellsOf now fault (leaf_depths (all_left now.unread))
@@ -195,12 +195,12 @@ first_left {rest = rest} left is = left ∙ ap (λ n. option_to_list n ++ rest) 
 
 -- one call after another
 module _ (first now : LeafWalk) (so_far : HasReadSome first now) where
-  pub then_read : (behind : LeafWalk) → HasReadSome now behind → HasReadSome first behind
-  then_read behind more = record {
+  pub then_read : (after : LeafWalk) → HasReadSome now after → HasReadSome first after
+  then_read after more = record {
     limits = more.limits ∙ so_far.limits;
     placed = more.placed;
     leaves = λ others. so_far.leaves others
-        ∙ subst (λ limits. Left limits.inlines now.next behind.next (leaf_depths (all_left now.unread)) (leaf_depths (all_left behind.unread))) so_far.limits more.leaves others;
+        ∙ subst (λ limits. Left limits.inlines now.next after.next (leaf_depths (all_left now.unread)) (leaf_depths (all_left after.unread))) so_far.limits more.leaves others;
   }
 
   pub then_told : (fault : Fault) → TellsOf now fault (leaf_depths (all_left now.unread)) → TellsOf first fault (leaf_depths (all_left first.unread))

@@ -82,8 +82,8 @@ pub line_at : (bs : List ℕ) (i last : ℕ) (pair : Bool) → i < length bs →
     → is_pair (drop i bs) ≡ pair → last ≡ cond pair (i + 1) i → lines_of bs ≡ take i bs ∷ lines_of (drop (last + 1) bs)
 line_at bs i last true within ends none is last_is =
     let plain = plain_front bs i (omega (arith, within)) none in
-    let behind : drop 2 (drop i bs) ≡ drop (last + 1) bs = drop-drop 2 i bs ∙ ap (λ n. drop n bs) (omega (arith, last_is)) in
-    ap lines_of (sym (take-append-drop i bs)) ∙ ended_by_pair (take i bs) (drop i bs) plain is ∙ ap (λ t. take i bs ∷ lines_of t) behind
+    let after : drop 2 (drop i bs) ≡ drop (last + 1) bs = drop-drop 2 i bs ∙ ap (λ n. drop n bs) (omega (arith, last_is)) in
+    ap lines_of (sym (take-append-drop i bs)) ∙ ended_by_pair (take i bs) (drop i bs) plain is ∙ ap (λ t. take i bs ∷ lines_of t) after
 line_at bs i last false within ends none is last_is =
     let plain = plain_front bs i (omega (arith, within)) none in
     let whole = at_byte bs i within in

@@ -2,12 +2,13 @@
 use Rattle.std.proofs.Common.{◌≡◌, Bool, List, [], ◌∷◌, ◌&&◌, map, refl, sym, ◌∙◌, ap, ap₂, subst}
 use Rattle.cm_text.specs.Rules.{Rules}
 use Rattle.cm_text.specs.Lines.{plain_lines_of, text_of}
+use Rattle.std.specs.List.{list_all}
 use Rattle.cm_tree.specs.declared.tree.Block.{Block, Block-F, map-Block}
 use Rattle.cm_tree.specs.declared.tree.Block.TheOpen as block
 use Rattle.cm_tree.specs.declared.tree.Block.TheViews.{roll-Block}
 use Rattle.cm_tree.specs.declared.tree.Block.TheFolds.{fold-roll-Block, fold_out-Block, ind-Block}
 use Rattle.cm_tree.specs.declared.tree.Block.TheVariants.{outs-Paragraph, outs-Heading, outs-Code, outs-Html, outs-Break, outs-Definition, outs-Quote, outs-List}
-use Rattle.cm_tree.specs.HeadingLevels.{all_of, all_of_items, level_step, has_levels, have_levels}
+use Rattle.cm_tree.specs.HeadingLevels.{all_of, level_step, has_levels, have_levels}
 use Rattle.cm_scan.specs.inlines.Brackets.{Defined}
 use Rattle.cm_scan.specs.blocks.Blocks.{blocks_of}
 use Rattle.cm_scan.proofs.lemmas.blocks.HeadingLevels.{heading_levels}
@@ -33,7 +34,7 @@ module _ (rules : Rules) (defined : Defined) where
   blocks-kept (e ∷ es) = ap₂ (λ a b. a && b) e.1 (blocks-kept es)
 
   items-kept : (items : List (List Proved))
-      → all_of_items (map (map has_levels) (map (map (block_read rules defined)) (map blocks_in items))) ≡ all_of_items (map (map has_levels) (map blocks_in items))
+      → list_all all_of (map (map has_levels) (map (map (block_read rules defined)) (map blocks_in items))) ≡ list_all all_of (map (map has_levels) (map blocks_in items))
   items-kept [] = refl
   items-kept (item ∷ items) = ap₂ (λ a b. a && b) (blocks-kept item) (items-kept items)
 

@@ -14,7 +14,7 @@ use Rattle.cm_block.proofs.lemmas.Depths.{too_deep_stays}
 use Rattle.cm_tool.specs.declared.fault.Fault.TheVariants.{BlocksTooDeep}
 use Rattle.cm_tool.specs.ToldFaults.{told}
 use Rattle.cm_tool.specs.Faults.{too_deep, sound_front, ended_too_deep, fault_by}
-use Rattle.cm_tool.specs.steps.FaultOrder.{ended_deep, all_deep, leaf_deep, of_two, of_four, fault_met, FaultsInOrder}
+use Rattle.cm_tool.specs.FaultOrder.{ended_deep, all_deep, leaf_deep, of_two, of_four, fault_met, FaultsInOrder}
 use Rattle.cm_tool.proofs.lemmas.EndedLemmas.{all_are_lines}
 
 module _ (limits : LimitsView) (bytes : List ℕ) where

@@ -1,23 +1,23 @@
 -- The owners of a document's lines: reading inlines changes no leaf.
-use Rattle.std.proofs.Common.{◌≡◌, ℕ, List, map, refl, sym, ◌∙◌, ap, arith, Some}
+use Rattle.std.proofs.Common.{◌≡◌, ℕ, map, refl, sym, ◌∙◌, ap, arith, Some}
 use Rattle.std.specs.Prelude.{not}
 use Rattle.std.proofs.lemmas.List.{length-map}
 use Rattle.cm_text.specs.Rules.{Rules}
 use Rattle.cm_text.specs.Lines.{plain_line, plain_lines_of, text_of, lines_of}
 use Rattle.cm_tree.specs.declared.tree.Block.{Block}
 use Rattle.cm_tree.specs.declared.tree.Block.TheFolds.{fold-Block, fold_out-Block}
-use Rattle.cm_tree.specs.declared.tree.Block.TheVariants.{Quote, List as ListBlock, outs-Paragraph, outs-Heading, outs-Code, outs-Html, outs-Break, outs-Definition, outs-Quote}
+use Rattle.cm_tree.specs.declared.tree.Block.TheVariants.{Quote, List as ListBlock, outs-Paragraph, outs-Heading, outs-Code, outs-Html, outs-Break, outs-Definition}
 use Rattle.cm_scan.specs.inlines.Brackets.{Defined}
 use Rattle.cm_scan.specs.blocks.Parts.{LeafPart, paragraph, heading, code, html, thematic_break, definition, Parts, none, blank, leaf, quote, list, ItemParts, last_item, item, leaf_block, is_loose, blocks_of_parts, blocks_of_items, leaf_count, item_leaf_count}
 use Rattle.cm_scan.specs.blocks.Blocks.{parts_of, blocks_of}
 use Rattle.cm_scan.specs.laws.PartLaws.{total_of_all, leaves_step, leaves_in}
-use Rattle.cm_scan.proofs.lemmas.blocks.OwnersOfLines.{quote-leaves, list-leaves, tree-leaves}
+use Rattle.cm_scan.proofs.lemmas.blocks.OwnersOfLines.{list-leaves, tree-leaves}
 use Rattle.cm_scan.proofs.lemmas.blocks.CountedLines.{one_owner, in_order}
 use Rattle.cm_scan.specs.Documents.{read_step, block_read, with_inlines}
 use Rattle.cm_scan.specs.Documents.{defined_by}
 use Rattle.cm_tool.specs.Owners.{OneOwnerALine, RunsInOrder}
 use Rattle.cm_tool.proofs.lemmas.EndedLemmas.{all_are_lines}
-use Rattle.cm_tool.proofs.lemmas.RawWalkLemmas.{list_read}
+use Rattle.cm_tree.proofs.lemmas.BlockFolds as block_fold
 
 abbrev leaves : Block → ℕ
 leaves block = fold-Block ℕ leaves_step block
@@ -33,9 +33,6 @@ module _ (rules : Rules) (defined : Defined) where
   leaf-read thematic_break = simp (fold_out-Block Block (read_step rules defined), fold_out-Block ℕ leaves_step, outs-Break)
   leaf-read (definition label dest title) = simp (fold_out-Block Block (read_step rules defined), fold_out-Block ℕ leaves_step, outs-Definition)
 
-  pub quote-read : (blocks : List Block) → block_read rules defined (Quote blocks) ≡ Quote (with_inlines rules defined blocks)
-  quote-read blocks = simp (fold_out-Block Block (read_step rules defined), outs-Quote)
-
   -- as many leaves as before
 
   mutual
@@ -47,12 +44,12 @@ module _ (rules : Rules) (defined : Defined) where
     leaves-read (leaf x lines rest) = omega (arith, leaf-read x, leaves-read rest)
     leaves-read (quote inside rest) =
         let one : leaves (block_read rules defined (Quote (blocks_of_parts inside))) ≡ leaf_count inside =
-        ap leaves (quote-read (blocks_of_parts inside)) ∙ quote-leaves (with_inlines rules defined (blocks_of_parts inside)) ∙ leaves-read inside in
+        ap leaves (block_fold.quote (read_step rules defined) (blocks_of_parts inside)) ∙ block_fold.quote leaves_step (with_inlines rules defined (blocks_of_parts inside)) ∙ leaves-read inside in
         omega (arith, one, leaves-read rest)
     leaves-read (list kind items rest) =
         let tight = not (is_loose items) in
         let one : leaves (block_read rules defined (ListBlock kind tight (blocks_of_items items))) ≡ item_leaf_count items =
-        ap leaves (list_read rules defined kind tight (blocks_of_items items)) ∙ list-leaves kind tight (map (with_inlines rules defined) (blocks_of_items items)) ∙ items-read items in
+        ap leaves (block_fold.list (read_step rules defined) kind tight (blocks_of_items items)) ∙ list-leaves kind tight (map (with_inlines rules defined) (blocks_of_items items)) ∙ items-read items in
         omega (arith, one, leaves-read rest)
 
     items-read : (items : ItemParts) → total_of_all (map (map (fold-Block ℕ leaves_step)) (map (with_inlines rules defined) (blocks_of_items items))) ≡ item_leaf_count items

@@ -14,7 +14,7 @@ use Rattle.cm_tool.specs.FaultPlaces.{EndsWith, FindsLine, IsLineOfFault, first_
 use Rattle.cm_tool.specs.Faults.{fault_of}
 use Rattle.cm_tool.specs.Parsing.{TellsFault}
 use Rattle.cm_tool.specs.Reading.{Refuses}
-use Rattle.cm_tool.specs.steps.FaultOrder.{leaf_deep}
+use Rattle.cm_tool.specs.FaultOrder.{leaf_deep}
 use Rattle.cm_tool.specs.steps.ReadingSteps.{IsInText, IsOutline}
 
 -- whether the line that hasn't ended has a byte

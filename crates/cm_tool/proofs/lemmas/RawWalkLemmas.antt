@@ -9,9 +9,9 @@ use Rattle.cm_tree.specs.declared.tree.Block.{Block}
 use Rattle.cm_tree.specs.declared.tree.Block.TheFolds.{fold_out-Block}
 use Rattle.cm_tree.specs.declared.tree.Block.TheVariants.{Paragraph, Heading, Code, Html, Break, Definition, Quote, List as ListBlock, outs-Paragraph, outs-Heading, outs-Code, outs-Html, outs-Break, outs-Definition, outs-Quote, outs-List}
 use Rattle.cm_tree.specs.declared.tree.ListKind.{ListKind}
-use Rattle.cm_html.specs.Html.{Written, block_step, written, alone, html_of, inlines_html, heading_html, code_html, quote_html, list_start, list_end, items_html}
+use Rattle.cm_html.specs.Html.{Written, block_step, written, alone, html_of, inlines_html, heading_html, code_html, list_start, list_end, items_html, line_feed_if, inside_from}
 use Rattle.cm_html.specs.Html.Written.{Nothing, Inlines, Whole}
-use Rattle.cm_html.specs.steps.ItemPass.{line_feed, inside_from}
+use Rattle.cm_html.specs.steps.HtmlParts.{quote_html}
 use Rattle.cm_scan.specs.inlines.Brackets.{Defined}
 use Rattle.cm_scan.specs.inlines.Inlines.{inlines_of, items_of, items_after}
 use Rattle.cm_scan.specs.inlines.Pairing.{settled_after, pair_all, pairs_within}
@@ -26,6 +26,7 @@ use Rattle.cm_tool.specs.Leaves.{depths_in, depths_step, first_past, leaf_depths
 use Rattle.cm_tool.specs.Parsing.{TellsFault}
 use Rattle.cm_tool.specs.steps.Items.{items_read, items_leaf_depths}
 use Rattle.cm_tool.specs.steps.Numbering.{Left, Passes, TellsLeaf}
+use Rattle.cm_tree.proofs.lemmas.BlockFolds as block_fold
 
 -- ---- chunks one after another
 
@@ -36,9 +37,9 @@ enclosed old started middle done start inside end first then last =
     last ∙ ap (λ t. t ++ end) (then ∙ ap (λ t. t ++ inside) first ∙ append_assoc old start inside) ∙ append_assoc old (start ++ inside) end
 
 module _ (limit : ℕ) where
-  pub left_next : (first next behind : ℕ) (whole some rest : List ℕ) → Left limit first next whole (some ++ rest) → Passes limit next behind some
-      → Left limit first behind whole rest
-  left_next first next behind whole some rest so_far pass more =
+  pub left_next : (first next after : ℕ) (whole some rest : List ℕ) → Left limit first next whole (some ++ rest) → Passes limit next after some
+      → Left limit first after whole rest
+  left_next first next after whole some rest so_far pass more =
       so_far more ∙ ap (first_past limit next) (append_assoc some rest more) ∙ pass (rest ++ more)
 
   pub left_told : (fault : Fault) (first next : ℕ) (whole some rest : List ℕ) → Left limit first next whole (some ++ rest) → TellsLeaf fault limit next some
@@ -63,23 +64,11 @@ module _ (rules : Rules) (defined : Defined) where
   abbrev pub read : Block → Block
   read block = block_read rules defined block
 
-  pub paragraph_read : (content : List Inline) → read (Paragraph content) ≡ Paragraph (content_read rules defined content)
-  paragraph_read content = simp (fold_out-Block Block (read_step rules defined), outs-Paragraph)
-
-  pub heading_read : (level : ℕ) (content : List Inline) → read (Heading level content) ≡ Heading level (content_read rules defined content)
-  heading_read level content = simp (fold_out-Block Block (read_step rules defined), outs-Heading)
-
-  pub quote_read : (blocks : List Block) → read (Quote blocks) ≡ Quote (with_inlines rules defined blocks)
-  quote_read blocks = simp (fold_out-Block Block (read_step rules defined), outs-Quote)
-
-  pub list_read : (kind : ListKind) (tight : Bool) (items : List (List Block)) → read (ListBlock kind tight items) ≡ ListBlock kind tight (items_read rules defined items)
-  list_read kind tight items = simp (fold_out-Block Block (read_step rules defined), outs-List)
-
   pub paragraph_depths : (content : List Inline) → depths_in (read (Paragraph content)) ≡ inlines_depth (content_read rules defined content) ∷ []
-  paragraph_depths content = ap depths_in (paragraph_read content) ∙ simp (fold_out-Block (List ℕ) depths_step, outs-Paragraph)
+  paragraph_depths content = ap depths_in (block_fold.paragraph (read_step rules defined) content) ∙ simp (fold_out-Block (List ℕ) depths_step, outs-Paragraph)
 
   pub heading_depths : (level : ℕ) (content : List Inline) → depths_in (read (Heading level content)) ≡ inlines_depth (content_read rules defined content) ∷ []
-  heading_depths level content = ap depths_in (heading_read level content) ∙ simp (fold_out-Block (List ℕ) depths_step, outs-Heading)
+  heading_depths level content = ap depths_in (block_fold.heading (read_step rules defined) level content) ∙ simp (fold_out-Block (List ℕ) depths_step, outs-Heading)
 
   pub code_depths : (info text : List ℕ) → depths_in (read (Code info text)) ≡ 0 ∷ []
   code_depths info text = simp (fold_out-Block Block (read_step rules defined), fold_out-Block (List ℕ) depths_step, outs-Code)
@@ -94,19 +83,19 @@ module _ (rules : Rules) (defined : Defined) where
   definition_depths label dest title = simp (fold_out-Block Block (read_step rules defined), fold_out-Block (List ℕ) depths_step, outs-Definition)
 
   pub quote_depths : (blocks : List Block) → depths_in (read (Quote blocks)) ≡ leaf_depths (with_inlines rules defined blocks)
-  quote_depths blocks = ap depths_in (quote_read blocks) ∙ simp (fold_out-Block (List ℕ) depths_step, outs-Quote)
+  quote_depths blocks = ap depths_in (block_fold.quote (read_step rules defined) blocks) ∙ simp (fold_out-Block (List ℕ) depths_step, outs-Quote)
 
   pub list_depths : (kind : ListKind) (tight : Bool) (items : List (List Block))
       → depths_in (read (ListBlock kind tight items)) ≡ items_leaf_depths (items_read rules defined items)
-  list_depths kind tight items = ap depths_in (list_read kind tight items) ∙ simp (fold_out-Block (List ℕ) depths_step, outs-List)
+  list_depths kind tight items = ap depths_in (block_fold.list (read_step rules defined) kind tight items) ∙ simp (fold_out-Block (List ℕ) depths_step, outs-List)
 
   -- ---- what they write
 
   pub paragraph_written : (content : List Inline) → written (read (Paragraph content)) ≡ Inlines (inlines_html (content_read rules defined content))
-  paragraph_written content = ap written (paragraph_read content) ∙ simp (fold_out-Block Written block_step, outs-Paragraph)
+  paragraph_written content = ap written (block_fold.paragraph (read_step rules defined) content) ∙ simp (fold_out-Block Written block_step, outs-Paragraph)
 
   pub heading_written : (level : ℕ) (content : List Inline) → written (read (Heading level content)) ≡ Whole (heading_html level (inlines_html (content_read rules defined content)))
-  heading_written level content = ap written (heading_read level content) ∙ simp (fold_out-Block Written block_step, outs-Heading)
+  heading_written level content = ap written (block_fold.heading (read_step rules defined) level content) ∙ simp (fold_out-Block Written block_step, outs-Heading)
 
   pub code_written : (info text : List ℕ) → written (read (Code info text)) ≡ Whole (code_html info text)
   code_written info text = simp (fold_out-Block Block (read_step rules defined), fold_out-Block Written block_step, outs-Code)
@@ -121,11 +110,11 @@ module _ (rules : Rules) (defined : Defined) where
   definition_written label dest title = simp (fold_out-Block Block (read_step rules defined), fold_out-Block Written block_step, outs-Definition)
 
   pub quote_written : (blocks : List Block) → written (read (Quote blocks)) ≡ Whole (quote_html (html_of (with_inlines rules defined blocks)))
-  quote_written blocks = ap written (quote_read blocks) ∙ simp (fold_out-Block Written block_step, outs-Quote)
+  quote_written blocks = ap written (block_fold.quote (read_step rules defined) blocks) ∙ simp (fold_out-Block Written block_step, outs-Quote)
 
   pub list_written : (kind : ListKind) (tight : Bool) (items : List (List Block))
       → written (read (ListBlock kind tight items)) ≡ Whole (list_start kind ++ items_html tight (map (map written) (items_read rules defined items)) ++ list_end kind)
-  list_written kind tight items = ap written (list_read kind tight items) ∙ simp (fold_out-Block Written block_step, outs-List)
+  list_written kind tight items = ap written (block_fold.list (read_step rules defined) kind tight items) ∙ simp (fold_out-Block Written block_step, outs-List)
 
   -- a block that is neither a paragraph nor a definition
   pub whole_written : (raw : Raw) (block : RawBlock) → ((from to : ℕ) → block ≡ raw_block.Paragraph from to → ⊥)
@@ -162,17 +151,17 @@ inlines_inside true fresh w others part old new is_tight is more =
 inlines_inside false fresh w others part old new is_tight is more = absurd (cc is_tight)
 
 pub loose_inlines_inside : (tight fresh : Bool) (w : Written) (others : List Written) (part old new : List ℕ) → tight ≡ false → w ≡ Inlines part
-    → new ≡ old ++ (line_feed fresh ++ alone w) → new ++ inside_from tight false others ≡ old ++ inside_from tight fresh (w ∷ others)
+    → new ≡ old ++ (line_feed_if fresh ++ alone w) → new ++ inside_from tight false others ≡ old ++ inside_from tight fresh (w ∷ others)
 loose_inlines_inside true fresh w others part old new is_loose is more = absurd (cc is_loose)
 loose_inlines_inside false fresh w others part old new is_loose is more =
-    ap (λ t. t ++ inside_from false false others) more ∙ append_assoc old (line_feed fresh ++ alone w) (inside_from false false others)
-    ∙ ap (λ w. old ++ (line_feed fresh ++ alone w ++ inside_from false false others)) is ∙ ap (λ w. old ++ inside_from false fresh (w ∷ others)) (sym is)
+    ap (λ t. t ++ inside_from false false others) more ∙ append_assoc old (line_feed_if fresh ++ alone w) (inside_from false false others)
+    ∙ ap (λ w. old ++ (line_feed_if fresh ++ alone w ++ inside_from false false others)) is ∙ ap (λ w. old ++ inside_from false fresh (w ∷ others)) (sym is)
 
 pub whole_inside : (tight fresh : Bool) (w : Written) (others : List Written) (part old new : List ℕ) → w ≡ Whole part
-    → new ≡ old ++ (line_feed fresh ++ alone w) → new ++ inside_from tight false others ≡ old ++ inside_from tight fresh (w ∷ others)
+    → new ≡ old ++ (line_feed_if fresh ++ alone w) → new ++ inside_from tight false others ≡ old ++ inside_from tight fresh (w ∷ others)
 whole_inside true fresh w others part old new is more =
-    ap (λ t. t ++ inside_from true false others) more ∙ append_assoc old (line_feed fresh ++ alone w) (inside_from true false others)
-    ∙ ap (λ w. old ++ (line_feed fresh ++ alone w ++ inside_from true false others)) is ∙ ap (λ w. old ++ inside_from true fresh (w ∷ others)) (sym is)
+    ap (λ t. t ++ inside_from true false others) more ∙ append_assoc old (line_feed_if fresh ++ alone w) (inside_from true false others)
+    ∙ ap (λ w. old ++ (line_feed_if fresh ++ alone w ++ inside_from true false others)) is ∙ ap (λ w. old ++ inside_from true fresh (w ∷ others)) (sym is)
 whole_inside false fresh w others part old new is more =
-    ap (λ t. t ++ inside_from false false others) more ∙ append_assoc old (line_feed fresh ++ alone w) (inside_from false false others)
-    ∙ ap (λ w. old ++ (line_feed fresh ++ alone w ++ inside_from false false others)) is ∙ ap (λ w. old ++ inside_from false fresh (w ∷ others)) (sym is)
+    ap (λ t. t ++ inside_from false false others) more ∙ append_assoc old (line_feed_if fresh ++ alone w) (inside_from false false others)
+    ∙ ap (λ w. old ++ (line_feed_if fresh ++ alone w ++ inside_from false false others)) is ∙ ap (λ w. old ++ inside_from false fresh (w ∷ others)) (sym is)

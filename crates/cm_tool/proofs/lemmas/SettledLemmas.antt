@@ -29,7 +29,7 @@ use Rattle.cm_tool.specs.Parsing.{TellsFault}
 use Rattle.cm_tool.specs.ToldFaults.{told}
 use Rattle.cm_tool.specs.Faults.{SettledIsTold, fault_of, settled_fault_of}
 use Rattle.cm_tool.proofs.lemmas.TellingLemmas.{tells_other}
-use Rattle.cm_tool.specs.steps.FaultOrder.{of_two, of_four, fault_met, settled_fault_met, ended_deep, all_deep, leaf_deep}
+use Rattle.cm_tool.specs.FaultOrder.{of_two, of_four, fault_met, settled_fault_met, ended_deep, all_deep, leaf_deep}
 use Rattle.cm_tool.proofs.lemmas.OrderLemmas.{faults_in_order}
 use Rattle.cm_tool.proofs.lemmas.EndedLemmas.{wider, cut_on, ended_stay, ended_are_lines}
 use lib.Utf8.{encode}

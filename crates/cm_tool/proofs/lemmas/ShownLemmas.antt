@@ -34,12 +34,12 @@ pub not_formatting : (g : GeneralCategory) → g ≢ Format → g ≢ LineSepara
 not_formatting g a b d = rw (other_category g Format a, other_category g LineSeparator b, other_category g ParagraphSeparator d) refl
 
 -- one character of a text
-pub shown_put : (made rest behind whole : List ℕ) (c : ℕ) → IsUtf8 rest → rest ≡ encode c ++ behind → made ++ shown rest ≡ whole
-    → (made ++ encodes (shown_char c)) ++ shown behind ≡ whole
-shown_put made rest behind whole c utf8 is so_far =
-    append_assoc made (encodes (shown_char c)) (shown behind)
-    ∙ ap (λ t. made ++ t) (sym (encodes-append (shown_char c) (flat_map shown_char (chars behind)))
-    ∙ ap (λ cs. encodes (flat_map shown_char cs)) (sym (chars_past_char rest behind c utf8 is)))
+pub shown_put : (made rest after whole : List ℕ) (c : ℕ) → IsUtf8 rest → rest ≡ encode c ++ after → made ++ shown rest ≡ whole
+    → (made ++ encodes (shown_char c)) ++ shown after ≡ whole
+shown_put made rest after whole c utf8 is so_far =
+    append_assoc made (encodes (shown_char c)) (shown after)
+    ∙ ap (λ t. made ++ t) (sym (encodes-append (shown_char c) (flat_map shown_char (chars after)))
+    ∙ ap (λ cs. encodes (flat_map shown_char cs)) (sym (chars_past_char rest after c utf8 is)))
     ∙ so_far
 
 -- its end

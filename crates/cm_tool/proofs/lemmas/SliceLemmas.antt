@@ -72,9 +72,9 @@ told_stays limits bytes more (Unspellable why) are h = absurd h
 told_stays limits bytes more (BadExampleFile line) are h = absurd h
 told_stays limits bytes more (ExampleDiffers number) are h = absurd h
 
-bytes_behind : (front back : List ℕ) → AreBytes (front ++ back) → AreBytes back
-bytes_behind [] back are = are
-bytes_behind (x ∷ xs) back are = bytes_behind xs back (All-tail (λ b. b < 256) x (xs ++ back) are)
+bytes_after : (front back : List ℕ) → AreBytes (front ++ back) → AreBytes back
+bytes_after [] back are = are
+bytes_after (x ∷ xs) back are = bytes_after xs back (All-tail (λ b. b < 256) x (xs ++ back) are)
 
 -- a slice has a fault: so has the piece
 pub slice_told : (feed : Feed) (blocks : BlockParser) (piece rest front back : List ℕ) (later : Feed) (now : BlockParser) (fault : Fault)
@@ -84,7 +84,7 @@ pub slice_told : (feed : Feed) (blocks : BlockParser) (piece rest front back : L
 slice_told feed blocks piece rest front back later now fault so_far slices are told limits bytes g =
     let first = told limits (bytes ++ so_far.0) (so_far.1.1 limits bytes g) in
     let inside : piece ≡ (so_far.0 ++ front) ++ back = so_far.1.0 ∙ ap (λ t. so_far.0 ++ t) slices ∙ sym (append_assoc so_far.0 front back) in
-    let are_back : AreBytes back = bytes_behind (so_far.0 ++ front) back (subst AreBytes inside are) in
+    let are_back : AreBytes back = bytes_after (so_far.0 ++ front) back (subst AreBytes inside are) in
     let whole : (((bytes ++ so_far.0) ++ front) ++ back) ≡ bytes ++ piece =
     append_assoc (bytes ++ so_far.0) front back ∙ append_assoc bytes so_far.0 (front ++ back)
     ∙ ap (λ t. bytes ++ t) (ap (λ t. so_far.0 ++ t) (sym slices) ∙ sym so_far.1.0) in

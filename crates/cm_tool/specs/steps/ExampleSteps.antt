@@ -14,17 +14,17 @@ example_of example = record { source = string_bytes example.source; html = strin
 pub record Part : Type 0 where
   pub text : List ℕ
   pub number : ℕ
-  pub behind : List (List ℕ)
+  pub beyond : List (List ℕ)
 
 abbrev pub part_of : (text : List ℕ) (taken : ℕ) (rest : List ℕ) → Part
-part_of text taken rest = record { text = text; number = taken + 1; behind = lines_of rest }
+part_of text taken rest = record { text = text; number = taken + 1; beyond = lines_of rest }
 
 -- The part up to the line that ends it, where there is this of it so far, and the next line has this number. None where the example
 -- closes before, or the lines end.
 abbrev pub part_from : (end so_far : List ℕ) (number : ℕ) → List (List ℕ) → Option Part
 part_from end so_far number [] = None
 part_from end so_far number (line ∷ lines) = elim (bytes_eq line end) [
-  | true ↦ Some (record { text = so_far; number = number + 1; behind = lines })
+  | true ↦ Some (record { text = so_far; number = number + 1; beyond = lines })
   | false ↦ elim (bytes_eq line closing_line) [
     | true ↦ None
     | false ↦ part_from end (so_far ++ example_line line) (number + 1) lines

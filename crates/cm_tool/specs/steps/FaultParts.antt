@@ -8,4 +8,4 @@ number_text None = []
 number_text (Some number) = decimal number
 
 abbrev pub parts_text : Parts → List ℕ
-parts_text parts = parts.front.now ++ number_text parts.number ++ parts.behind.now
+parts_text parts = parts.front.now ++ number_text parts.number ++ parts.beyond.now

@@ -6,8 +6,8 @@ use Rattle.cm_tool.specs.Leaves.{first_past}
 use Rattle.cm_tool.specs.Parsing.{TellsFault}
 
 -- No leaf of these depths is past the limit: where the first of them has the one number, the first after them has the other.
-abbrev pub Passes : (limit first behind : ℕ) → (depths : List ℕ) → Type 0
-Passes limit first behind depths = (more : List ℕ) → first_past limit first (depths ++ more) ≡ first_past limit behind more
+abbrev pub Passes : (limit first after : ℕ) → (depths : List ℕ) → Type 0
+Passes limit first after depths = (more : List ℕ) → first_past limit first (depths ++ more) ≡ first_past limit after more
 
 -- Leaves of these depths have been read but for the rest: where the first of all has the one number, the first of the rest has the other.
 abbrev pub Left : (limit first next : ℕ) → (whole rest : List ℕ) → Type 0

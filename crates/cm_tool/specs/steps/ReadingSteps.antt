@@ -11,7 +11,7 @@ use Rattle.cm_tool.specs.declared.fault.Fault.{Fault}
 use Rattle.cm_tool.specs.declared.fault.Fault.TheVariants.{NotUtf8, TooLong, BlocksTooDeep, InlinesTooDeep}
 use Rattle.cm_tool.specs.Faults.{fault_of, settled_fault_of}
 use Rattle.cm_tool.specs.Reading.{RefusesBy, Refuses}
-use Rattle.cm_tool.specs.steps.FaultOrder.{leaf_deep}
+use Rattle.cm_tool.specs.FaultOrder.{leaf_deep}
 
 -- the outline of the bytes, which have no fault but that of a leaf too deep
 pub record IsOutline (limits : LimitsView) (bytes : List ℕ) (outline : Outline) : Type 0 where

@@ -8,7 +8,7 @@ ghost use Rattle.cm_tool.specs.Writing.{converted};
 
 use crate::example_files::{Example, examples_in};
 use crate::fault::Fault;
-use crate::reading::html_of;
+use crate::outputs::html_of;
 use cm_text::{Limits, Rules};
 use std::alloc::{AllocError, Global};
 

@@ -1,19 +1,14 @@
 //! The blocks of an outline with the inlines of their leaves.
-ghost use Rattle.std.specs.Prelude.{◌≡◌, ◌++◌, [], length, option_map, option_to_list};
+ghost use Rattle.std.specs.Prelude.{◌≡◌, ◌++◌, [], length, option_to_list};
 ghost use Rattle.std.specs.Prelude.{IfOk, IfErr, OnOk, None};
 ghost use Rattle.cm_tree.specs.RawBlocks.{IsPlaced, IsRange};
-ghost use Rattle.cm_tool.specs.declared.fault.Fault.TheVariants as faults;
-ghost use Rattle.cm_tool.specs.steps.LeafWalks.{defined_in, with_inlines, depths_in, leaf_depths};
-ghost use Rattle.cm_tool.specs.steps.LeafWalks.{items_leaf_depths, first_leaf_past, block_read_of};
+ghost use Rattle.cm_tool.specs.steps.LeafWalks.{depths_in, leaf_depths, items_leaf_depths, block_read_of};
 ghost use Rattle.cm_tool.specs.steps.LeafWalks.{blocks_read_at, items_read_at, all_left, ArePlacedLeft};
 ghost use Rattle.cm_tool.specs.steps.LeafWalks.{HasRead, HasReadAll, HasReadSome, TellsOf};
-ghost use Rattle.cm_tool.specs.steps.LeafWalks.{TellsFault};
 
 use crate::fault::Fault;
 use crate::outlines::leaf_walk::LeafWalk;
-use cm_text::Limits;
-use cm_tree::{Block, Definitions, Items, RawBlock, RawTree, Text};
-use std::alloc::Global;
+use cm_tree::{Block, Items, RawBlock, Text};
 
 impl LeafWalk {
     /// A block with the inlines of its leaves.
@@ -127,8 +122,9 @@ impl LeafWalk {
         Ok(Some(self.block(block)?))
     }
 
-    /// All blocks that are left, with the inlines of their leaves.
-    fn all_blocks(&mut self) -> Result<Items<Block>, Fault>
+    /// All blocks that are left, with the inlines of their leaves. Each chunk is freed before the next one is
+    /// read.
+    pub(crate) fn all_blocks(&mut self) -> Result<Items<Block>, Fault>
         requires { ArePlacedLeft self.old.unread }
         ensures read { IfOk result (λ read. read ≡ all_left self.old.unread) }
         ensures passes { OnOk result (HasReadAll self.old self.new) }
@@ -141,26 +137,4 @@ impl LeafWalk {
         }
         Ok(read)
     }
-}
-
-/// The blocks with the inlines of their leaves, at every depth. Each chunk of the document is freed before
-/// the next one is read.
-///
-/// # Errors
-///
-/// As `doc_of_outline`.
-pub(crate) fn read_leaves(
-    alloc: Global,
-    limits: Limits,
-    definitions: Definitions,
-    blocks: RawTree,
-) -> Result<Items<Block>, Fault>
-    ensures read { IfOk result (λ read. read ≡ with_inlines limits.rules (defined_in definitions) blocks) }
-    ensures within { IfOk result (λ _.
-        first_leaf_past limits.inlines (with_inlines limits.rules (defined_in definitions) blocks) ≡ None) }
-    ensures told { IfErr result (λ fault. TellsFault fault (option_map faults.InlinesTooDeep
-        (first_leaf_past limits.inlines (with_inlines limits.rules (defined_in definitions) blocks)))) }
-{
-    let mut walk = LeafWalk::new(alloc, limits, definitions, blocks);
-    walk.all_blocks()
 }

@@ -4,8 +4,8 @@
 //! is in code twice, here and in `cm_html` for trees, and once in the definition.
 ghost use Rattle.std.specs.Prelude.{◌≡◌, List, ◌∷◌, ◌++◌, length, map, true, IfOk, IfErr, OnOk};
 ghost use Rattle.cm_tree.specs.RawBlocks.{IsItem, IsPlaced, IsRange};
-ghost use Rattle.cm_html.specs.Html.{html_of, item_html, items_html, Written, written, alone};
-ghost use Rattle.cm_html.specs.steps.ItemPass.{inside_from, line_feed};
+ghost use Rattle.cm_html.specs.Html.{html_of, items_html, Written, written, alone, inside_from, line_feed_if};
+ghost use Rattle.cm_html.specs.steps.HtmlParts.{item_html};
 ghost use Rattle.cm_tool.specs.steps.LeafWalks.{depths_in, leaf_depths, items_leaf_depths, block_read_of};
 ghost use Rattle.cm_tool.specs.steps.LeafWalks.{blocks_read_at, items_read_at, all_left, ArePlacedLeft};
 ghost use Rattle.cm_tool.specs.steps.LeafWalks.{HasRead, HasReadAll, TellsOf};
@@ -180,7 +180,7 @@ impl LeafWalk {
     fn push_apart(&mut self, html: &mut Pages, fresh: bool, block: RawBlock) -> Result<(), Fault>
         requires { IsPlaced self.old.unread.raw block }
         ensures pushed { OnOk result (html.new ≡
-            html.old ++ (line_feed fresh
+            html.old ++ (line_feed_if fresh
             ++ alone (written (block_read_of self.old.unread block)))) }
         ensures passes { OnOk result (HasRead self.old self.new
             (depths_in (block_read_of self.old.unread block))) }

@@ -12,19 +12,15 @@ ghost use Rattle.cm_block.specs.Parser.{HasTaken, TellsDepth};
 ghost use Rattle.cm_block.specs.Faults.{IsTooMuch};
 ghost use Rattle.cm_tool.specs.declared.fault.Fault as faults;
 ghost use Rattle.cm_tool.specs.Faults.{fault_of, settled_fault_of};
-ghost use Rattle.cm_tool.specs.Parsing.{Goes, HasTakenIn, Answers, Finishes, TellsFault, Makes};
-ghost use Rattle.cm_tool.specs.Writing.{converted};
+ghost use Rattle.cm_tool.specs.Parsing.{Goes, HasTakenIn, Answers, TellsFault};
 ghost use Rattle.cm_tool.specs.steps.ReadingSteps.{IsOutline};
 ghost use Rattle.cm_tool.specs.steps.Handing.{Hands};
 ghost use Rattle.cm_tool.specs.steps.Pushing.{Pushes, Counts};
 
 use crate::fault::Fault;
-use crate::outlines::{doc_of_outline, html_of_outline};
 use crate::reading::taking_in::TakesBytes;
 use cm_block::{BlockFault, BlockParser, Outline};
-use cm_html::Pages;
 use cm_text::{Limits, LineBuffer, TextFault};
-use cm_tree::Doc;
 use std::alloc::Global;
 use std::marker::Model;
 
@@ -37,7 +33,7 @@ pub(crate) const SLICE: usize = 8192;
 /// returns that fault.
 #[derive(Debug, Drop)]
 pub struct Parser {
-    alloc: Global,
+    pub(crate) alloc: Global,
     feed: LineBuffer,
     blocks: BlockParser,
     fault: Option<Fault>,
@@ -101,6 +97,13 @@ impl Parser {
         result
     }
 
+    /// The limits of its text.
+    pub(crate) fn limits(&self) -> Limits
+        ensures { result ≡ self.now.blocks.limits }
+    {
+        self.blocks.limits()
+    }
+
     /// The outline of the document of the bytes so far.
     pub(crate) fn outline(self) -> Result<Outline, Fault>
         ensures outline { IfOk result (λ outline. (limits : LimitsView) (bytes : List ℕ)
@@ -117,32 +120,8 @@ impl Parser {
         } = self;
         match fault {
             Some(fault) => Err(fault),
-            None => outline(feed, blocks),
+            None => end_outline(feed, blocks),
         }
-    }
-
-    /// The HTML of the document of the bytes so far, in pages. No tree is made.
-    ///
-    /// # Errors
-    ///
-    /// As `finish`.
-    pub fn finish_html(self) -> Result<Pages, Fault>
-        ensures finishes { (limits : LimitsView) (bytes : List ℕ) → HasTakenIn limits self bytes
-            → Makes (λ pages. pages ≡ converted limits.rules bytes) result limits bytes }
-        ensures failed { (fault : faults.Fault) → self.fault ≡ Some fault → result ≡ Err fault }
-    {
-        let (alloc, limits) = (self.alloc, self.blocks.limits());
-        html_of_outline(alloc, limits, self.outline()?, usize::MAX)
-    }
-
-    /// The document of the bytes so far.
-    pub fn finish(self) -> Result<Doc, Fault>
-        ensures finishes { (limits : LimitsView) (bytes : List ℕ) → HasTakenIn limits self bytes
-            → Finishes result limits bytes }
-        ensures failed { (fault : faults.Fault) → self.fault ≡ Some fault → result ≡ Err fault }
-    {
-        let (alloc, limits) = (self.alloc, self.blocks.limits());
-        doc_of_outline(alloc, limits, self.outline()?)
     }
 }
 
@@ -167,9 +146,9 @@ fn push(feed: &mut LineBuffer, blocks: &mut BlockParser, piece: &[u8]) -> Result
     ensures counts { Counts result piece.now feed.old feed.new }
 {
     let mut rest = piece;
-    while let Some((slice, behind)) = rest.split_at_checked(SLICE) {
+    while let Some((slice, beyond)) = rest.split_at_checked(SLICE) {
         push_slice(feed, blocks, slice)?;
-        rest = behind;
+        rest = beyond;
     }
     push_slice(feed, blocks, rest)
 }
@@ -190,8 +169,8 @@ fn push_slice(feed: &mut LineBuffer, blocks: &mut BlockParser, piece: &[u8]) -> 
     Ok(())
 }
 
-/// The outline of the bytes.
-fn outline(mut feed: LineBuffer, mut blocks: BlockParser) -> Result<Outline, Fault>
+/// Ends the text, and returns its outline.
+fn end_outline(mut feed: LineBuffer, mut blocks: BlockParser) -> Result<Outline, Fault>
     requires { feed.ended ≡ false }
     ensures outline { IfOk result (λ outline. (limits : LimitsView) (bytes : List ℕ)
         → Goes limits feed blocks bytes → IsOutline limits bytes outline) }

@@ -40,11 +40,11 @@ refused found output (ExampleDiffers number) tells = absurd tells
 
 module _ (limits : LimitsView) (text : List ℕ) where
   -- why the tree can't be spelled comes after the fault of the text
-  behind : fault_of limits text ≡ None → rewriting_fault limits text ≡ option_map Unspellable (refusal_of limits.rules (kept_tree limits.rules text))
-  behind none = ap (λ f. option_or f (option_map Unspellable (refusal_of limits.rules (kept_tree limits.rules text)))) none
+  beyond : fault_of limits text ≡ None → rewriting_fault limits text ≡ option_map Unspellable (refusal_of limits.rules (kept_tree limits.rules text))
+  beyond none = ap (λ f. option_or f (option_map Unspellable (refusal_of limits.rules (kept_tree limits.rules text)))) none
 
   pub no_fault : fault_of limits text ≡ None → IsSpellable limits.rules (kept_tree limits.rules text) → rewriting_fault limits text ≡ None
-  no_fault none spellable = behind none ∙ ap (option_map Unspellable) spellable
+  no_fault none spellable = beyond none ∙ ap (option_map Unspellable) spellable
 
   pub unrewritten : (fault : Fault) (output : List ℕ) → MakesPlainSource (Err fault) limits text → Gives (rewriting_fault limits text) output (Err fault)
   unrewritten (NotUtf8 at) output e = ap (λ f. option_or f (option_map Unspellable (refusal_of limits.rules (kept_tree limits.rules text)))) e
@@ -54,6 +54,6 @@ module _ (limits : LimitsView) (text : List ℕ) where
   unrewritten NoMemory output e = tt
   unrewritten ReadFailed output e = absurd e
   unrewritten (WriteFailed written) output e = absurd e
-  unrewritten (Unspellable why) output e = behind e.0 ∙ ap (option_map Unspellable) e.1
+  unrewritten (Unspellable why) output e = beyond e.0 ∙ ap (option_map Unspellable) e.1
   unrewritten (BadExampleFile line) output e = absurd e
   unrewritten (ExampleDiffers number) output e = absurd e

@@ -1,20 +1,16 @@
 -- What a call that makes JSON made is JSON.
-use Rattle.std.proofs.Common.{◌≡◌, ℕ, List, [], true, refl, sym, ap, subst, inl, inr, ◌∙◌, Some}
-use Rattle.std.specs.Prelude.{Option, Ok, Err, Result, Vec, String, IfOk, OnOk, is_some, string_bytes}
+use Rattle.std.proofs.Common.{◌≡◌, ℕ, List, [], refl, sym, inl, inr, ◌∙◌, Some}
+use Rattle.std.specs.Prelude.{Option, Ok, Err, Result, Vec, OnOk}
 use Rattle.std.specs.declared.alloc.Global.{Global}
-use Rattle.std.specs.Result.{result_ok}
 use Rattle.cm_tool.specs.declared.fault.Fault.{Fault}
 use Rattle.cm_tool.specs.declared.fault.Fault.TheVariants.{NotUtf8, TooLong, BlocksTooDeep, InlinesTooDeep, NoMemory, ReadFailed, WriteFailed, Unspellable, BadExampleFile, ExampleDiffers}
 use Rattle.cmk_c.specs.Calls.{Answer, AnswersBy, Gives}
 use Rattle.cmk_c.specs.Numbers.{number_of}
 
--- what holds of a text holds of what was made of it, if there was memory for it
-pub made_sound : (Holds : List ℕ → Type 0) {E F : Type 0} (json : Result (String Global) E) (bytes : List ℕ) → IfOk json (λ t. string_bytes t ≡ bytes)
-    → IfOk json (λ t. Holds (string_bytes t)) → (text : Option (String Global)) → text ≡ result_ok json
-    → (made : Result (Vec ℕ Global) F) → OnOk made (is_some text ≡ true) → OnOk made (Holds bytes)
-made_sound Holds (Ok t) bytes is sound text told (Ok v) made = subst Holds is sound
-made_sound Holds (Err e) bytes is sound text told (Ok v) made = absurd (let none = sym (ap is_some told) ∙ made in cc)
-made_sound Holds json bytes is sound text told (Err f) made = tt
+-- what holds, holds where there is a result
+pub on_made : {V E : Type 0} (Holds : Type 0) → Holds → (made : Result V E) → OnOk made Holds
+on_made Holds holds (Ok v) = holds
+on_made Holds holds (Err e) = tt
 
 -- a fault has a number of its own
 no_zero : (fault : Fault) → number_of fault ≡ 0 → ⊥

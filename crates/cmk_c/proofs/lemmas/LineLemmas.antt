@@ -41,11 +41,11 @@ one-of : (ends : Bool) (one other : List ℕ) → ArePlain one → ArePlain othe
 one-of true one other first second = first
 one-of false one other first second = second
 
-number-onto : (k n : ℕ) (behind : List ℕ) → ArePlain behind → ArePlain (digits_onto k 10 false n behind)
-number-onto zero n behind are = are
-number-onto (suc k) n behind are =
-    let last = digit_glyph false (n % 10) ∷ behind in
-    let fine = more (digit_glyph false (n % 10)) behind (glyph (n % 10)) are in
+number-onto : (k n : ℕ) (beyond : List ℕ) → ArePlain beyond → ArePlain (digits_onto k 10 false n beyond)
+number-onto zero n beyond are = are
+number-onto (suc k) n beyond are =
+    let last = digit_glyph false (n % 10) ∷ beyond in
+    let fine = more (digit_glyph false (n % 10)) beyond (glyph (n % 10)) are in
     one-of (n / 10 == 0) last (digits_onto k 10 false (n / 10) last) fine (number-onto k (n / 10) last fine)
 
 number : (n : ℕ) → ArePlain (decimal n)

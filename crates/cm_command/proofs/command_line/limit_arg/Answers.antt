@@ -5,5 +5,5 @@ use Rattle.cm_command.proofs.command_line.limit_arg.Goals as goal
 pub returns-clause-rule : goal.returns-clause-rule
 returns-clause-rule c =
     let given = c.value_parser.ensures.given in
-    let parser_is : c.value_parser.result.value_parser ≡ Some (Unsigned 1 500) = given.1 ∙ ap Some (given.2 ∙ c.unsigned.ensures) in
+    let parser_is : c.value_parser.result.value_parser ≡ Some (Unsigned 1 c.args.most) = given.1 ∙ ap Some (given.2 ∙ c.unsigned.ensures) in
     search (rules, parser_is)

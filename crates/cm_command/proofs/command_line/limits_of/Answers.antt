@@ -1,63 +1,61 @@
-use Rattle.std.proofs.Common.{◌≡◌, ◌∙◌, ap, ap₂, sym, rules, ℕ, Option, Some, codes, refl, ◌^◌, ◌≤◌}
-use Rattle.std.specs.Prelude.{option_and_then, option_map}
-use Rattle.clap.specs.Words.{Text, found_of, rows_of}
+use Rattle.std.proofs.Common.{◌≡◌, ◌∙◌, ap, sym, rules, ℕ, true, List, Option, Some, ◌≤◌}
+use Rattle.std.specs.Prelude.{option_map}
+use Rattle.clap.specs.Words.{ReadsOne, Row, Text, found_of, one_text, rows_of}
+use Rattle.clap.specs.declared.parser.matches.ArgMatches.{ArgMatches}
 use Rattle.clap.proofs.WalkLemmas.{one_text-rows}
-use Rattle.cm_text.specs.Limits.{LimitsView, limits_for}
-use Rattle.cm_text.specs.Rules.{profile}
-use Rattle.cm_command.specs.CommandLine.{as_number, limits_of, rules_in}
-use Rattle.cm_command.proofs.lemmas.CommandLineLemmas.{read_in_range, number_read, limits_made, standard_bytes}
+use Rattle.cm_text.specs.Limits.{LimitsView}
+use Rattle.cm_command.specs.CommandLine.{Limit, Bytes, Blocks, Inlines, as_number, is_limit, limit_name, limits_from, most, number_at, rules_in}
+use Rattle.cm_command.specs.steps.Arguments.{IsRead}
+use Rattle.cm_command.proofs.lemmas.CommandLineLemmas.{Gives, read_in_range, number_read, limits_made}
 use Rattle.cm_command.proofs.command_line.limits_of.Goals as goal
+
+pub unwrap-bytes-requires : goal.unwrap-bytes-requires
+unwrap-bytes-requires c =
+    let one = c.requires.limits Bytes in
+    let got = read_in_range Bytes one.text c.get_one.result (c.get_one.ensures.value one.text (one_text-rows (found_of c.args.found.now) (limit_name Bytes) ∙ one.is_read)) one.is_fit in
+    search (rules, got.1)
 
 pub unwrap-blocks-requires : goal.unwrap-blocks-requires
 unwrap-blocks-requires c =
-    let blocks = c.requires.blocks in
-    let text_is = one_text-rows (found_of c.args.found.now) (codes "blocks") ∙ blocks.is_read in
-    let got = read_in_range blocks.text c.get_one.result (c.get_one.ensures.value blocks.text text_is) blocks.is_fit in
+    let one = c.requires.limits Blocks in
+    let got = read_in_range Blocks one.text c.get_one-2.result (c.get_one-2.ensures.value one.text (one_text-rows (found_of c.args.found.now) (limit_name Blocks) ∙ one.is_read)) one.is_fit in
     search (rules, got.1)
 
 pub unwrap-inlines-requires : goal.unwrap-inlines-requires
 unwrap-inlines-requires c =
-    let inlines = c.requires.inlines in
-    let text_is = one_text-rows (found_of c.args.found.now) (codes "inlines") ∙ inlines.is_read in
-    let got = read_in_range inlines.text c.get_one-2.result (c.get_one-2.ensures.value inlines.text text_is) inlines.is_fit in
+    let one = c.requires.limits Inlines in
+    let got = read_in_range Inlines one.text c.get_one-3.result (c.get_one-3.ensures.value one.text (one_text-rows (found_of c.args.found.now) (limit_name Inlines) ∙ one.is_read)) one.is_fit in
     search (rules, got.1)
 
--- a number that was read
-abbrev IsNumber : Text → ℕ → Type 0
-IsNumber text n = (as_number text ≡ n) × (1 ≤ n) × (n ≤ 500)
+-- the number of a limit that was read, in its range
+record IsNumber (limit : Limit) (rows : List Row) (n : ℕ) : Type 0 where
+  is : number_at limit rows ≡ Some n
+  range : (1 ≤ n) × (n ≤ most limit)
 
--- the limits that were made
-made : (blocks_text inlines_text : Text) (blocks inlines bytes : ℕ) (standard : LimitsView) (limits : Option LimitsView)
-    → IsNumber blocks_text blocks → IsNumber inlines_text inlines → Some standard ≡ limits_for (2 ^ 28) 100 100
-    → bytes ≡ standard.bytes → limits ≡ limits_for bytes blocks inlines
-    → (limits ≡ Some (record { bytes = 2 ^ 28; blocks = blocks; inlines = inlines; rules = profile }))
-    × (limits_for (2 ^ 28) (as_number blocks_text) (as_number inlines_text) ≡ limits)
-made blocks_text inlines_text blocks inlines bytes standard limits b i standard_is bytes_are limits_are =
-    let all = limits_are ∙ limits_made bytes blocks inlines (bytes_are ∙ standard_bytes standard standard_is) b.1 b.2 i.1 i.2 in
-    (all, ap₂ (limits_for (2 ^ 28)) b.0 i.0 ∙ limits_made (2 ^ 28) blocks inlines refl b.1 b.2 i.1 i.2 ∙ sym all)
+number : (limit : Limit) (matches : ArgMatches) (one : IsRead (limit_name limit) (rows_of (found_of matches))) (r : Option ℕ) (n : ℕ) → is_limit limit one.text ≡ true
+    → ((text : Text) → one_text (found_of matches) (limit_name limit) ≡ Some text → ReadsOne Gives text r) → r ≡ Some n → IsNumber limit (rows_of (found_of matches)) n
+number limit matches one r n fit reads is =
+    let got = number_read limit one.text r n (reads one.text (one_text-rows (found_of matches) (limit_name limit) ∙ one.is_read)) fit is in
+    record { is = ap (option_map as_number) one.is_first ∙ ap Some got.0; range = (got.1, got.2) }
 
 pub unwrap-limits-requires : goal.unwrap-limits-requires
 unwrap-limits-requires c =
-    let blocks = c.requires.blocks in
-    let inlines = c.requires.inlines in
-    let found = found_of c.args.found.now in
-    let blocks_are = number_read blocks.text c.get_one.result c.unwrap-blocks.result (c.get_one.ensures.value blocks.text (one_text-rows found (codes "blocks") ∙ blocks.is_read)) blocks.is_fit c.unwrap-blocks.ensures in
-    let inlines_are = number_read inlines.text c.get_one-2.result c.unwrap-inlines.result (c.get_one-2.ensures.value inlines.text (one_text-rows found (codes "inlines") ∙ inlines.is_read)) inlines.is_fit c.unwrap-inlines.ensures in
-    let all = made blocks.text inlines.text c.unwrap-blocks.result c.unwrap-inlines.result c.bytes.result c.standard-standard.result c.new.result
-    blocks_are inlines_are c.standard-standard.ensures c.bytes.ensures.value c.new.ensures in
-    search (rules, all.0)
+    let read = c.requires.limits in
+    let of_bytes = number Bytes c.args.found.now (read Bytes) c.get_one.result c.unwrap-bytes.result (read Bytes).is_fit c.get_one.ensures.value c.unwrap-bytes.ensures in
+    let of_blocks = number Blocks c.args.found.now (read Blocks) c.get_one-2.result c.unwrap-blocks.result (read Blocks).is_fit c.get_one-2.ensures.value c.unwrap-blocks.ensures in
+    let of_inlines = number Inlines c.args.found.now (read Inlines) c.get_one-3.result c.unwrap-inlines.result (read Inlines).is_fit c.get_one-3.ensures.value c.unwrap-inlines.ensures in
+    search (rules, c.new.ensures ∙ limits_made c.unwrap-bytes.result c.unwrap-blocks.result c.unwrap-inlines.result of_bytes.range of_blocks.range of_inlines.range)
 
 pub returns : goal.returns
 returns c =
-    let blocks = c.requires.blocks in
-    let inlines = c.requires.inlines in
-    let found = found_of c.args.found.now in
-    let found_rules = rules_in (rows_of found) in
-    let blocks_are = number_read blocks.text c.get_one.result c.unwrap-blocks.result (c.get_one.ensures.value blocks.text (one_text-rows found (codes "blocks") ∙ blocks.is_read)) blocks.is_fit c.unwrap-blocks.ensures in
-    let inlines_are = number_read inlines.text c.get_one-2.result c.unwrap-inlines.result (c.get_one-2.ensures.value inlines.text (one_text-rows found (codes "inlines") ∙ inlines.is_read)) inlines.is_fit c.unwrap-inlines.ensures in
-    let all = made blocks.text inlines.text c.unwrap-blocks.result c.unwrap-inlines.result c.bytes.result c.standard-standard.result c.new.result
-    blocks_are inlines_are c.standard-standard.ensures c.bytes.ensures.value c.new.ensures in
-    let both : Option Text → Option Text → Option LimitsView = λ b i. option_and_then (λ bs. option_and_then (limits_of found_rules bs) i) b in
-    ap₂ both blocks.is_first inlines.is_first
-    ∙ ap (option_map (λ (l : LimitsView). record l { rules = found_rules })) (all.1 ∙ c.unwrap-limits.ensures)
+    let read = c.requires.limits in
+    let rows = rows_of (found_of c.args.found.now) in
+    let of_rules = rules_in rows in
+    let of_bytes = number Bytes c.args.found.now (read Bytes) c.get_one.result c.unwrap-bytes.result (read Bytes).is_fit c.get_one.ensures.value c.unwrap-bytes.ensures in
+    let of_blocks = number Blocks c.args.found.now (read Blocks) c.get_one-2.result c.unwrap-blocks.result (read Blocks).is_fit c.get_one-2.ensures.value c.unwrap-blocks.ensures in
+    let of_inlines = number Inlines c.args.found.now (read Inlines) c.get_one-3.result c.unwrap-inlines.result (read Inlines).is_fit c.get_one-3.ensures.value c.unwrap-inlines.ensures in
+    ap (λ n. limits_from of_rules n (number_at Blocks rows) (number_at Inlines rows)) of_bytes.is
+    ∙ ap (λ n. limits_from of_rules (Some c.unwrap-bytes.result) n (number_at Inlines rows)) of_blocks.is
+    ∙ ap (limits_from of_rules (Some c.unwrap-bytes.result) (Some c.unwrap-blocks.result)) of_inlines.is
+    ∙ ap (option_map (λ (l : LimitsView). record l { rules = of_rules })) (sym c.new.ensures ∙ c.unwrap-limits.ensures)
     ∙ search rules

@@ -11,15 +11,15 @@ pub loop-c-preserved : goal.loop-c-preserved
 loop-c-preserved c =
     let i = c.loop-c.invariant in
     let rest = c.loop-c.c-iterator.rest.now in
-    let behind = c.next.new.self.rest.now in
+    let beyond = c.next.new.self.rest.now in
     let is = c.in-Some.ensures.steps.0 in
     let put_is : c.if-c-eq8594.push ≡ tab_for_arrow c.in-Some.c = elim c.if-c-eq8594.branch [
       | then-c-eq8594 w ↦ w.push-is ∙ is_arrow c.in-Some.c w.if-c-eq8594.true
       | else-c-eq8594 w ↦ w.push-is ∙ no_arrow c.in-Some.c w.if-c-eq8594.false
     ] in (
-      rest_utf8 rest behind c.in-Some.c i.0 is,
+      rest_utf8 rest beyond c.in-Some.c i.0 is,
       rw c.in_ok-push.ensures.bytes
-          (char_put (string_bytes c.loop-c.part) rest behind (string_bytes c.args.part.now ++ example_line c.args.line.now) c.in-Some.c c.if-c-eq8594.push i.0 is put_is i.1),
+          (char_put (string_bytes c.loop-c.part) rest beyond (string_bytes c.args.part.now ++ example_line c.args.line.now) c.in-Some.c c.if-c-eq8594.push i.0 is put_is i.1),
     )
 
 pub returns : goal.returns

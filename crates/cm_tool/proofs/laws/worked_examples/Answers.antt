@@ -61,7 +61,7 @@ returns-clause-html c = record {
   indented_code = simp (fold_out-Block Block, fold_out-Block Written block_step, code);
   lazy_line = simp (fold_out-Block Block, fold_out-Block Written block_step, fold_out-Inline Rendered inline_step, quote, paragraph, text, soft);
   list_in_a_quote = simp (fold_out-Block Block, fold_out-Block Written block_step, fold_out-Inline Rendered inline_step, quote, items, paragraph, text, soft);
-  spaces_behind_a_tab = simp (fold_out-Block Block, fold_out-Block Written block_step, fold_out-Inline Rendered inline_step, paragraph, text, hard);
+  spaces_after_a_tab = simp (fold_out-Block Block, fold_out-Block Written block_step, fold_out-Inline Rendered inline_step, paragraph, text, hard);
   code_and_escape = simp (fold_out-Block Block, fold_out-Block Written block_step, fold_out-Inline Rendered inline_step, paragraph, text, code_span);
 }
 
@@ -76,7 +76,7 @@ returns-clause-files c = record {
   arrow_as_a_tab = refl;
   opening_line_in_a_source = refl;
   carriage_returns = refl;
-  more_behind_the_word = refl;
+  more_after_the_word = refl;
   opening_line_alone = refl;
   closed_before_the_middle = refl;
   no_closing_line = refl;

@@ -11,10 +11,10 @@ use Rattle.cm_tool.proofs.outlines.json_of_outline.Goals as goal
 
 pub returns : goal.returns
 returns c = λ bytes is.
-    let new = c.new-walk.ensures in
-    let blocks = all_left c.new-walk.result.unread in
+    let new = c.new.ensures in
+    let blocks = all_left c.new.result.unread in
     let owners = owners_of_bytes c.args.limits.rules bytes in
-    walk_made c.args.limits c.args.outline bytes is (λ tree json. (json ≡ json_of tree owners) × IsJson (json_of tree owners) (value_of tree owners)) c.new-walk.result c.json.new.self
+    walk_made c.args.limits c.args.outline bytes is (λ tree json. (json ≡ json_of tree owners) × IsJson (json_of tree owners) (value_of tree owners)) c.new.result c.json.new.self
     new.first new.limits new.all c.json.result
     (subst (λ (owners : List Owner). IfOk c.json.result (λ json. (json ≡ json_of blocks owners) × IsJson (json_of blocks owners) (value_of blocks owners))) is.same.owners
     (both c.json.result (λ json. json ≡ json_of blocks c.args.outline.owners) _ c.json.ensures.json c.json.ensures.is_json))

@@ -8,11 +8,11 @@ pub loop-c-preserved : goal.loop-c-preserved
 loop-c-preserved c =
     let i = c.loop-c.invariant in
     let rest = c.loop-c.c-iterator.rest.now in
-    let behind = c.next.new.self.rest.now in
+    let beyond = c.next.new.self.rest.now in
     let is = c.in-Some.ensures.steps.0 in (
-      rest_utf8 rest behind c.in-Some.c i.0 is,
+      rest_utf8 rest beyond c.in-Some.c i.0 is,
       rw c.in_ok-push_shown_char.ensures
-          (shown_put (string_bytes c.loop-c.out) rest behind (string_bytes c.args.out.now ++ shown c.args.text.now) c.in-Some.c i.0 is i.1),
+          (shown_put (string_bytes c.loop-c.out) rest beyond (string_bytes c.args.out.now ++ shown c.args.text.now) c.in-Some.c i.0 is i.1),
     )
 
 pub returns : goal.returns

@@ -6,8 +6,8 @@ use Rattle.cm_tree.specs.Depth.{depth_of_block}
 use Rattle.cm_tree.specs.RawBlocks.{block_in, IsPlaced}
 use Rattle.cm_tree.specs.declared.raw_blocks.RawBlock.{RawBlock}
 use Rattle.cm_tree.proofs.lemmas.RawWalks.{joined, quote_depth, list_depth}
-use Rattle.cm_html.specs.Html.{alone, item_html, heading_end, heading_start, html_of, inlines_html, inside, items_html, list_end, list_start, written}
-use Rattle.cm_html.specs.steps.ItemPass.{inside_from, line_feed}
+use Rattle.cm_html.specs.Html.{alone, heading_end, heading_start, html_of, inlines_html, items_html, list_end, list_start, written, inside_from, line_feed_if}
+use Rattle.cm_html.specs.steps.HtmlParts.{inside, item_html}
 use Rattle.cm_html.proofs.lemmas.ItemLemmas.{inside_added}
 use Rattle.cm_scan.specs.inlines.Brackets.{defined_in}
 use Rattle.cm_tool.specs.declared.outlines.leaf_walk.Unread.{Unread}
@@ -345,7 +345,7 @@ push_inside-returns-in_ok-push_apart-in-Paragraph-clause-pushed t c =
     let unread = c.args.self.now.unread in
     let same = shows unread c.in-Paragraph.is ∙ paragraph_written unread.limits.rules (defined_in unread.definitions) _ in
     λ others. loose_inlines_inside c.args.tight c.args.fresh (written (block_read_of unread c.args.block)) others _ c.args.html.now c.push_apart.new.html c.if-tight.false same
-    (subst (λ b. c.push_apart.new.html ≡ c.args.html.now ++ (line_feed c.args.fresh ++ alone (written (block_read_of unread b)))) (sym c.in-Paragraph.is) c.in_ok-push_apart-in-Paragraph.ensures.pushed)
+    (subst (λ b. c.push_apart.new.html ≡ c.args.html.now ++ (line_feed_if c.args.fresh ++ alone (written (block_read_of unread b)))) (sym c.in-Paragraph.is) c.in_ok-push_apart-in-Paragraph.ensures.pushed)
 
 pub push_inside-returns-in_ok-push_apart-in_default-clause-pushed : goal.push_inside-returns-in_ok-push_apart-in_default-clause-pushed
 push_inside-returns-in_ok-push_apart-in_default-clause-pushed t c =

@@ -4,8 +4,7 @@ use Rattle.std.specs.Prelude.{map, true}
 use Rattle.cm_tree.specs.Depth.{blocks_depth, depth_of_block}
 use Rattle.cm_tree.specs.steps.ItemSteps.{items_depth}
 use Rattle.cm_tree.specs.RawBlocks.{block_in, item_in}
-use Rattle.cm_html.specs.Html.{html_of, items_html, written}
-use Rattle.cm_html.specs.steps.ItemPass.{inside_from}
+use Rattle.cm_html.specs.Html.{html_of, items_html, written, inside_from}
 use Rattle.cm_tool.specs.Leaves.{leaf_depths}
 use Rattle.cm_tool.specs.steps.Items.{items_leaf_depths}
 use Rattle.cm_tool.specs.steps.LeafWalks.{blocks_read_at, items_read_at}

@@ -4,7 +4,7 @@ use Rattle.cm_text.specs.Limits.{LimitsView}
 use Rattle.cm_text.specs.Lines.{plain_lines_of, text_of}
 use Rattle.cm_block.specs.Parser.{OutlineOf}
 use Rattle.cm_tool.proofs.lemmas.ParserLemmas.{nothing_settled, no_fault, stands, end_told, has_ended, last_line_told, whole_taken, count_of, ended_of}
-use Rattle.cm_tool.proofs.reading.parser.outline.Goals as goal
+use Rattle.cm_tool.proofs.reading.parser.end_outline.Goals as goal
 
 pub returns-in_err-end-clause-told : goal.returns-in_err-end-clause-told
 returns-in_err-end-clause-told c =

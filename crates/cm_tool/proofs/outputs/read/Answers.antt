@@ -1,5 +1,5 @@
 use Rattle.cm_tool.proofs.lemmas.ReadLemmas.{doc_read}
-use Rattle.cm_tool.proofs.reading.read.Goals as goal
+use Rattle.cm_tool.proofs.outputs.read.Goals as goal
 
 pub returns : goal.returns
 returns g c =

@@ -1,7 +1,7 @@
 use Rattle.std.proofs.Common.{[]}
 use Rattle.std.proofs.lemmas.Result.{err_from_is_err_and, IfErr-weaker, IfOk-weaker}
 use Rattle.cm_tool.proofs.lemmas.SettledLemmas.{tells_whole}
-use Rattle.cm_tool.proofs.reading.in_memory.outline_of.Goals as goal
+use Rattle.cm_tool.proofs.outputs.in_memory.outline_of_bytes.Goals as goal
 
 pub returns-in_err-feed-clause-told : goal.returns-in_err-feed-clause-told
 returns-in_err-feed-clause-told c =

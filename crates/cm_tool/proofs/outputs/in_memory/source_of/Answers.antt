@@ -2,7 +2,7 @@ use Rattle.std.proofs.Common.{subst}
 use Rattle.cm_tool.specs.Rewriting.{kept_tree}
 use Rattle.cm_tool.specs.steps.PlainSources.{Spelled}
 use Rattle.cm_tool.proofs.lemmas.RewritingLemmas.{lasts}
-use Rattle.cm_tool.proofs.reading.in_memory.source_of.Goals as goal
+use Rattle.cm_tool.proofs.outputs.in_memory.source_of.Goals as goal
 
 pub returns : goal.returns
 returns c =

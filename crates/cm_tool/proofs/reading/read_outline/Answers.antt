@@ -3,7 +3,7 @@ use Rattle.std.proofs.lemmas.Result.{err_from_is_err_and}
 use Rattle.cm_tool.specs.Faults.{fault_of}
 use Rattle.cm_tool.proofs.lemmas.ParserLemmas.{nothing_settled}
 use Rattle.cm_tool.proofs.lemmas.ReadLemmas.{outline_read}
-use Rattle.cm_tool.proofs.reading.outline_of.Goals as goal
+use Rattle.cm_tool.proofs.reading.read_outline.Goals as goal
 
 pub returns-in_err-take_all : goal.returns-in_err-take_all
 returns-in_err-take_all g c =

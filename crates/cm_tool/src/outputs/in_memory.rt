@@ -1,22 +1,25 @@
-//! The document, the HTML and the plain source of a text in memory, without a device.
+//! The document, the HTML, the listing, the JSON and the plain source of a text in memory, without a device.
 ghost use Rattle.std.specs.Prelude.{◌≡◌, IfErr, IfOk};
 ghost use Rattle.cm_tool.specs.Faults.{fault_of};
 ghost use Rattle.cm_tool.specs.Parsing.{Finishes, Makes, TellsFault};
 ghost use Rattle.cm_tool.specs.Rewriting.{MakesPlainSource};
-ghost use Rattle.cm_tool.specs.Writing.{converted};
+ghost use Rattle.cm_tool.specs.Writing.{IsTreeInJson, converted, in_json, listed};
 ghost use Rattle.cm_tool.specs.steps.ReadingSteps.{IsOutline};
 
 use crate::fault::Fault;
-use crate::outlines::{doc_of_outline, html_of_outline, plain_source_of_outline};
-use crate::reading::parser::Parser;
+use crate::outlines::{
+    doc_of_outline, html_of_outline, json_of_outline, listing_of_outline, plain_source_of_outline,
+};
+use crate::reading::Parser;
 use cm_block::Outline;
 use cm_html::Pages;
+use cm_json::JsonText;
 use cm_text::Limits;
 use cm_tree::Doc;
 use std::alloc::Global;
 
 /// The outline of these bytes.
-fn outline_of(alloc: Global, bytes: &[u8], limits: Limits) -> Result<Outline, Fault>
+fn outline_of_bytes(alloc: Global, bytes: &[u8], limits: Limits) -> Result<Outline, Fault>
     ensures outline { IfOk result (λ outline. IsOutline limits bytes.now outline) }
     ensures told { IfErr result (λ fault. TellsFault fault (fault_of limits bytes.now)) }
 {
@@ -33,7 +36,7 @@ fn outline_of(alloc: Global, bytes: &[u8], limits: Limits) -> Result<Outline, Fa
 pub fn doc_of(alloc: Global, bytes: &[u8], limits: Limits) -> Result<Doc, Fault>
     ensures { Finishes result limits bytes.now }
 {
-    doc_of_outline(alloc, limits, outline_of(alloc, bytes, limits)?)
+    doc_of_outline(alloc, limits, outline_of_bytes(alloc, bytes, limits)?)
 }
 
 /// The number of bytes that the HTML of a text of this length usually needs at most.
@@ -51,7 +54,30 @@ pub fn html_of(alloc: Global, bytes: &[u8], limits: Limits) -> Result<Pages, Fau
     ensures { Makes (λ pages. pages ≡ converted limits.rules bytes.now) result limits bytes.now }
 {
     let room = room_for_html(bytes.len());
-    html_of_outline(alloc, limits, outline_of(alloc, bytes, limits)?, room)
+    html_of_outline(alloc, limits, outline_of_bytes(alloc, bytes, limits)?, room)
+}
+
+/// The listing of these bytes' tree and of the owners of its lines, as the program writes it, in pages.
+///
+/// # Errors
+///
+/// As `doc_of`.
+pub fn listing_of(alloc: Global, bytes: &[u8], limits: Limits) -> Result<Pages, Fault>
+    ensures { Makes (λ pages. pages ≡ listed limits.rules bytes.now) result limits bytes.now }
+{
+    listing_of_outline(alloc, limits, outline_of_bytes(alloc, bytes, limits)?)
+}
+
+/// The JSON of these bytes' tree, as the program writes it, without a line feed at its end.
+///
+/// # Errors
+///
+/// As `doc_of`.
+pub fn json_of(alloc: Global, bytes: &[u8], limits: Limits) -> Result<JsonText, Fault>
+    ensures { Makes (λ json. (json ≡ in_json limits.rules bytes.now) × IsTreeInJson limits.rules bytes.now)
+        result limits bytes.now }
+{
+    json_of_outline(alloc, limits, outline_of_bytes(alloc, bytes, limits)?)
 }
 
 /// Plain source of these bytes' tree without its link reference definitions, as `rewrite` writes it for a
@@ -63,6 +89,6 @@ pub fn html_of(alloc: Global, bytes: &[u8], limits: Limits) -> Result<Pages, Fau
 pub fn source_of(alloc: Global, bytes: &[u8], limits: Limits) -> Result<String, Fault>
     ensures { MakesPlainSource result limits bytes.now }
 {
-    let outline = outline_of(alloc, bytes, limits)?;
+    let outline = outline_of_bytes(alloc, bytes, limits)?;
     Ok(plain_source_of_outline(alloc, limits, outline)??)
 }
