@@ -14,19 +14,19 @@ const LONG: usize = 2_000;
 #[derive(Clone, Copy, Debug)]
 pub enum Cut {
     Nowhere,
-    BehindEachByte,
-    BehindByte(usize),
+    AfterEachByte,
+    AfterByte(usize),
     /// After each byte whose bit is set.
-    BehindBytes(u16),
+    AfterBytes(u16),
 }
 
 impl Cut {
-    fn is_behind(self, index: usize) -> bool {
+    fn is_after(self, index: usize) -> bool {
         match self {
             Cut::Nowhere => false,
-            Cut::BehindEachByte => true,
-            Cut::BehindByte(byte) => byte == index,
-            Cut::BehindBytes(bits) => index < 16 && (bits >> index) % 2 == 1,
+            Cut::AfterEachByte => true,
+            Cut::AfterByte(byte) => byte == index,
+            Cut::AfterBytes(bits) => index < 16 && (bits >> index) % 2 == 1,
         }
     }
 }
@@ -35,9 +35,9 @@ impl fmt::Display for Cut {
     fn fmt<W: fmt::Write>(&self, f: &mut fmt::Formatter<W>) -> fmt::Result {
         match self {
             Cut::Nowhere => write!(f, "whole"),
-            Cut::BehindEachByte => write!(f, "byte by byte"),
-            Cut::BehindByte(byte) => write!(f, "cut behind byte {byte}"),
-            Cut::BehindBytes(bits) => write!(f, "cut behind the bytes of {bits:#b}"),
+            Cut::AfterEachByte => write!(f, "byte by byte"),
+            Cut::AfterByte(byte) => write!(f, "cut after byte {byte}"),
+            Cut::AfterBytes(bits) => write!(f, "cut after the bytes of {bits:#b}"),
         }
     }
 }
@@ -45,15 +45,15 @@ impl fmt::Display for Cut {
 /// The cuts of a text of this length: none, after each byte, each cut in two, and, for up to 8 bytes, each
 /// cut.
 pub fn cuts(alloc: Global, len: usize) -> Result<Vec<Cut>, AllocError> {
-    let mut cuts = vec![in alloc; Cut::Nowhere, Cut::BehindEachByte]?;
+    let mut cuts = vec![in alloc; Cut::Nowhere, Cut::AfterEachByte]?;
     if len <= LONG {
         for byte in 0..len {
-            cuts.push(Cut::BehindByte(byte))?;
+            cuts.push(Cut::AfterByte(byte))?;
         }
     }
     if len <= 8 {
         for bits in 0..1u16 << len {
-            cuts.push(Cut::BehindBytes(bits))?;
+            cuts.push(Cut::AfterBytes(bits))?;
         }
     }
     Ok(cuts)
@@ -65,7 +65,7 @@ pub fn pieces(alloc: Global, bytes: &[u8], cut: Cut) -> Result<Vec<Vec<u8>>, All
     let mut piece = Vec::new(alloc);
     for (index, b) in bytes.iter().enumerate() {
         piece.push(*b)?;
-        if cut.is_behind(index) {
+        if cut.is_after(index) {
             pieces.push(mem::replace(&mut piece, Vec::new(alloc)))?;
             pieces.push(Vec::new(alloc))?;
         }

@@ -74,10 +74,11 @@ fn is_done(alloc: Global, case: &Case, ran: &Written) -> Result<(), Trouble> {
     Ok(())
 }
 
-/// Checks that plain source is made of a text in memory as the case expects, or that it is refused with the
-/// expected reason.
+/// Checks that plain source or JSON is made of a text in memory as the case expects, or that it is refused with
+/// the expected reason.
 fn is_in_memory(alloc: Global, case: &Case, task: &Task, input: &[u8]) -> Result<(), Trouble> {
-    if task.job != Job::Rewrite || case.has("room") || task.file.is_some() {
+    let is_made = matches!(task.job, Job::Rewrite | Job::TreeJson);
+    if !is_made || case.has("room") || task.file.is_some() {
         return Ok(());
     }
     let (made, line) = match in_memory(alloc, task.job, input, task.limits) {

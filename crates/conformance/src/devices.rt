@@ -58,7 +58,7 @@ impl Done<'_> {
     fn is_failed(&self, place: usize) -> Result<(), Trouble> {
         let alloc = self.alloc;
         let front = self.input.get(..place).unwrap_or(self.input);
-        let given = (pieces(alloc, front, Cut::BehindEachByte)?, true);
+        let given = (pieces(alloc, front, Cut::AfterEachByte)?, true);
         let ran = ran(
             alloc,
             self.task,

@@ -7,7 +7,8 @@ use case_tables::cuts::Counted;
 use cm_html::listing;
 use cm_text::{Limits, NoMemory, Room};
 use cm_tool::{
-    Fault, Job, Stop, Task, convert, doc_of, html_of, read_text, rewrite, run, source_of, tell,
+    Fault, Job, Stop, Task, convert, doc_of, html_of, json_of, listing_of, read_text, rewrite, run,
+    source_of, tell, tell_no_example,
 };
 use std::alloc::Global;
 
@@ -53,7 +54,7 @@ pub(crate) struct Written {
     pub(crate) reads: usize,
 }
 
-/// Does a task with a text in these pieces, after which the reader may fail.
+/// Does a task as the program does, with a text in these pieces, after which the reader may fail.
 pub(crate) fn ran(
     alloc: Global,
     task: &Task,
@@ -62,15 +63,31 @@ pub(crate) fn ran(
 ) -> Result<Written, NoMemory> {
     let mut output = Room::new(alloc, output.capacity, output.at_most)?;
     let mut errors = Room::new(alloc, errors.capacity, errors.at_most)?;
+    let again = pieces.clone()?;
     let mut source = Counted::new(pieces, fails);
     let status = run(alloc, task, &mut source, &mut output, &mut errors);
     let reads = source.reads();
+    if status == 0 && task.job == Job::Examples {
+        tell_whether_none(alloc, task.limits, (again, fails), &mut errors);
+    }
     Ok(Written {
         output,
         errors,
         status,
         reads,
     })
+}
+
+/// Reports a file of examples that has none, as the program does after its task.
+fn tell_whether_none(
+    alloc: Global,
+    limits: Limits,
+    (pieces, fails): (Vec<Vec<u8>>, bool),
+    errors: &mut Room,
+) {
+    let mut source = Counted::new(pieces, fails);
+    // The task itself is done.
+    let _ = tell_no_example(alloc, limits, &mut source, errors);
 }
 
 /// Reports why there is no task.
@@ -132,7 +149,18 @@ pub(crate) fn text_read(
     (answer, source.reads())
 }
 
-/// The HTML of a text that lies in memory, the listing of its tree, or its plain source.
+/// The listing of a text that lies in memory, made without its document, and with it where that differs.
+fn listed(alloc: Global, text: &[u8], limits: Limits) -> Result<String, Fault> {
+    let mut listed = listing_of(alloc, text, limits)?.into_string()?;
+    let of_document = listing(alloc, &doc_of(alloc, text, limits)?)?;
+    if of_document != listed {
+        listed.push_str("but its document is listed as\n")?;
+        listed.push_str(of_document.as_str())?;
+    }
+    Ok(listed)
+}
+
+/// The HTML of a text that lies in memory, the listing of its tree, a line with its JSON, or its plain source.
 pub(crate) fn in_memory(
     alloc: Global,
     job: Job,
@@ -142,6 +170,11 @@ pub(crate) fn in_memory(
     match job {
         Job::Render => Ok(html_of(alloc, text, limits)?.into_string()?),
         Job::Rewrite => source_of(alloc, text, limits),
-        _ => Ok(listing(alloc, &doc_of(alloc, text, limits)?)?),
+        Job::TreeJson => {
+            let mut json = json_of(alloc, text, limits)?.into_string()?;
+            json.push('\n')?;
+            Ok(json)
+        }
+        _ => listed(alloc, text, limits),
     }
 }

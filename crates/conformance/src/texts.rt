@@ -174,7 +174,7 @@ impl Text<'_> {
     /// Checks the number of reads.
     fn has_reads(&self, cut: Cut, reads: usize) -> Result<(), Trouble> {
         match (cut, self.reads) {
-            (Cut::BehindEachByte, Some(wanted)) if reads != wanted => {
+            (Cut::AfterEachByte, Some(wanted)) if reads != wanted => {
                 Err(wrong(self.alloc, "the number of reads is wrong"))
             }
             _ => Ok(()),
@@ -344,7 +344,7 @@ impl Text<'_> {
                     is_late: false,
                 },
             }
-            .is_read(Cut::BehindEachByte)?;
+            .is_read(Cut::AfterEachByte)?;
         }
         Ok(())
     }

@@ -133,7 +133,7 @@ fn refused(answer: &mut Answer, limit: &str, text: &str) -> Result<bool, Trouble
     Ok(true)
 }
 
-/// Whether the lines of a text are read at least and at most so often.
+/// Whether a text's lines are read at least `least` and at most `most` times.
 fn tests(answer: &mut Answer, least: &str, most: &str, text: &str) -> Result<bool, Trouble> {
     let least = number(answer.alloc, least)? as u128;
     let most = number(answer.alloc, most)? as u128;
