@@ -54,18 +54,23 @@ all: $(OUT)/libcmk.a $(OUT)/$(SHARED) $(OUT)/cmk.pc
 proved:
 	@tools/build.py $(if $(BUILD),,--built)
 
-# One archive of the crate and the functions for memory.
-$(OUT)/libcmk.a: proved
+# The cmk_free of the libraries, which is the header's.
+$(OUT)/cmk_free.o: include/cmk_free.c include/cmk.h
+	@mkdir -p $(OUT)
+	$(CC) -std=c99 -O2 -fPIC -fno-ident -c -o $@ $<
+
+# One archive of the crate, cmk_free and the functions for memory.
+$(OUT)/libcmk.a: proved $(OUT)/cmk_free.o
 	@mkdir -p $(OUT)/objects
-	cd $(OUT)/objects && rm -f *.o && $(AR) x "$$OLDPWD/$(CRATE)" && $(AR) x $(call quoted,$(HEAP))
+	cd $(OUT)/objects && rm -f *.o && $(AR) x "$$OLDPWD/$(CRATE)" && $(AR) x $(call quoted,$(HEAP)) && cp ../cmk_free.o .
 	rm -f $@
 	$(AR) rcs $@ $(OUT)/objects/*.o
 	rm -r $(OUT)/objects
 
 # Only the exports are visible from outside.
-$(OUT)/$(SHARED): proved
+$(OUT)/$(SHARED): proved $(OUT)/cmk_free.o
 	@mkdir -p $(OUT)
-	$(CC) -shared -o $@ -Wl,-soname,$(SONAME) -Wl,--whole-archive $(CRATE) -Wl,--no-whole-archive \
+	$(CC) -shared -o $@ -Wl,-soname,$(SONAME) -Wl,--whole-archive $(CRATE) -Wl,--no-whole-archive $(OUT)/cmk_free.o \
 		-Wl,--exclude-libs,liblibc_c.a $(call quoted,$(HEAP)) -Wl,--no-undefined -Wl,-z,relro,-z,now $(LDFLAGS)
 
 $(OUT)/cmk.pc: cmk.pc.in include/cmk.h FORCE

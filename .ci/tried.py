@@ -1,4 +1,5 @@
-"""What the scripts that try the built program and library share: counting points, running commands, and what is built."""
+"""What the scripts that try the built program and library share: counting points, running commands, and what is
+built."""
 
 import os
 import pathlib
@@ -44,13 +45,20 @@ class Run:
     """The result of a command."""
 
     def __init__(self, words, given=b"", environment=None, folder=None):
-        how = {"cwd": folder, "input": given, "stdout": subprocess.PIPE, "stderr": subprocess.PIPE, "env": {**os.environ, **(environment or {})}}
-        ran = subprocess.run([str(it) for it in words], timeout=7200, check=False, **how)
+        how = {
+            "cwd": folder, "input": given, "stdout": subprocess.PIPE, "stderr": subprocess.PIPE,
+            "env": {**os.environ, **(environment or {})},
+        }
+        ran = subprocess.run([str(word) for word in words], timeout=7200, check=False, **how)
         self.status, self.wrote, self.said = ran.returncode, ran.stdout, ran.stderr
 
     def mistake(self):
         """Returns what the command said and its status, if that isn't 0."""
-        return None if self.status == 0 else f"status {self.status}: {(self.said or self.wrote).decode(errors='replace')[-500:].strip()}"
+        return (
+            None
+            if self.status == 0
+            else f"status {self.status}: {(self.said or self.wrote).decode(errors='replace')[-500:].strip()}"
+        )
 
     def answer(self):
         return self.status, self.wrote, self.said
@@ -65,17 +73,18 @@ def damage(file, name):
 
 def is_current(made):
     """Returns whether no source is newer than what was made of it."""
-    sources = [TOP / "crates.txt", *(it for part in build.PARTS for it in TOP.glob(f"crates/*/{part}/**/*"))]
-    return made.exists() and all(it.stat().st_mtime <= made.stat().st_mtime for it in sources)
+    sources = [TOP / "crates.txt", *(path for part in build.PARTS for path in TOP.glob(f"crates/*/{part}/**/*"))]
+    return made.exists() and all(source.stat().st_mtime <= made.stat().st_mtime for source in sources)
 
 
 def build_archive(room):
-    """Builds the static library over the libraries that rt ci left in the crates' folders, or else as make does. Returns what went wrong."""
+    """Builds the static library over the libraries that rt ci left in the crates' folders, or else as make does.
+    Returns what went wrong."""
     if is_current(ARCHIVE):
         return None
     plan = build.crates(build.LIBRARY)
-    below = {it: TOP / "crates" / it / "out/rlib" for it in plan if it != build.LIBRARY}
-    if not all((folder / f"{it}.rlib").is_dir() for it, folder in below.items()):
+    below = {name: TOP / "crates" / name / "out/rlib" for name in plan if name != build.LIBRARY}
+    if not all((folder / f"{name}.rlib").is_dir() for name, folder in below.items()):
         return Run([TOP / "tools/build.py", build.LIBRARY]).mistake()
     (words,) = build.Kit().steps(plan[build.LIBRARY], below, 1, room)
     mistake = Run(words, folder=TOP / "crates/cmk_c").mistake()
@@ -86,7 +95,8 @@ def build_archive(room):
 
 
 def copy_built(top):
-    """Copies the repository with the program and the static library into a folder, as if `make` had built them there."""
+    """Copies the repository with the program and the static library into a folder, as if `make` had built them
+    there."""
     shutil.copytree(TOP, top, ignore=shutil.ignore_patterns(".git", "out", "dist", "target", "__pycache__"))
     kit, plan = build.Kit(), build.crates(*build.MADE)
     sums = build.sums_of(plan, kit)
@@ -99,6 +109,7 @@ def copy_built(top):
 
 
 def flags_of(environment):
-    """Returns the words for the compiler and for the linker. pkg-config puts a backslash before each byte of a letter beyond ASCII."""
-    told = [Run(["pkg-config", f"--{it}", "cmk"], environment=environment).wrote for it in ("cflags", "libs")]
-    return [shlex.split(os.fsdecode(it)) for it in told]
+    """Returns the words for the compiler and for the linker. pkg-config puts a backslash before each byte of a letter
+    beyond ASCII."""
+    told = [Run(["pkg-config", f"--{kind}", "cmk"], environment=environment).wrote for kind in ("cflags", "libs")]
+    return [shlex.split(os.fsdecode(word)) for word in told]

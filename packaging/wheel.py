@@ -1,5 +1,8 @@
 """The wheel with the library in it, for each system that has the C library which that needs."""
 
+from __future__ import annotations
+
+import pathlib
 import re
 
 from common import SHARED, Failed, backend, run
@@ -8,7 +11,7 @@ from common import SHARED, Failed, backend, run
 LEAST = 5
 
 
-def tag_of(library):
+def tag_of(library: pathlib.Path) -> str:
     """Returns the tag of a wheel with a library, by the versions of the symbols that it needs."""
     needed = re.findall(r"\(NEEDED\).*\[(.*)\]", run("readelf", "--wide", "--dynamic", library))
     if needed != ["libc.so.6"]:
@@ -17,7 +20,7 @@ def tag_of(library):
     return f"py3-none-manylinux_2_{max([LEAST, *map(int, versions)])}_x86_64"
 
 
-def write_into(folder, prefix):
+def write_into(folder: pathlib.Path, prefix: pathlib.Path) -> str:
     """Writes the wheel of what is installed into a folder, and returns its name."""
     library = prefix / "lib" / SHARED
-    return backend.write_wheel(folder, tag_of(library), library)
+    return str(backend.write_wheel(folder, tag_of(library), library))

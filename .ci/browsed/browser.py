@@ -13,12 +13,15 @@ import time
 # The pipes by which Chromium is told what to do, and answers.
 FOR_COMMANDS, FOR_ANSWERS = 3, 4
 # Root can't have Chromium's sandbox.
-WORDS = """--headless --remote-debugging-pipe --no-first-run --disable-gpu --disable-dev-shm-usage --disable-extensions --hide-scrollbars
---force-color-profile=srgb --lang=en --no-sandbox""".split()
+WORDS = """--headless --remote-debugging-pipe --no-first-run --disable-gpu --disable-dev-shm-usage --disable-extensions
+--hide-scrollbars --force-color-profile=srgb --lang=en --no-sandbox""".split()
 # No name is resolved, so a test can't depend on another machine, and can't reach one.
 WORDS.append("--host-resolver-rules=MAP * ~NOTFOUND, EXCLUDE 127.0.0.1")
 SECONDS = 60
-KEYS = {"Tab": 9, "Enter": 13, "Space": 32, "End": 35, "Home": 36, "ArrowLeft": 37, "ArrowUp": 38, "ArrowRight": 39, "ArrowDown": 40}
+KEYS = {
+    "Tab": 9, "Enter": 13, "Space": 32, "End": 35, "Home": 36, "ArrowLeft": 37, "ArrowUp": 38, "ArrowRight": 39,
+    "ArrowDown": 40,
+}
 TEXTS = {"Enter": "\r", "Space": " "}
 
 
@@ -29,7 +32,7 @@ class Trouble(Exception):
 class Browser:
     def __init__(self, program, folder):
         # Pipes with high numbers can be moved to the two that Chromium expects without getting into each other's way.
-        ends = [fcntl.fcntl(it, fcntl.F_DUPFD_CLOEXEC, 20) for pipe in (os.pipe(), os.pipe()) for it in pipe]
+        ends = [fcntl.fcntl(end, fcntl.F_DUPFD_CLOEXEC, 20) for pipe in (os.pipe(), os.pipe()) for end in pipe]
 
         def connect():
             os.dup2(ends[0], FOR_COMMANDS)
@@ -38,7 +41,9 @@ class Browser:
         words = [program, *WORDS, f"--user-data-dir={folder}", "about:blank"]
         quiet = {"stdin": subprocess.DEVNULL, "stdout": subprocess.DEVNULL, "stderr": subprocess.DEVNULL}
         environment = {**os.environ, "HOME": str(folder)}
-        self.process = subprocess.Popen(words, **quiet, env=environment, close_fds=False, preexec_fn=connect, start_new_session=True)
+        self.process = subprocess.Popen(
+            words, **quiet, env=environment, close_fds=False, preexec_fn=connect, start_new_session=True
+        )
         os.close(ends[0])
         os.close(ends[3])
         self.answers, self.commands = ends[2], ends[1]
@@ -113,9 +118,16 @@ class Tab:
         return found[0]
 
     def requested(self):
-        """Returns the addresses that the page has asked for since the last call, without those that its policy forbids."""
-        forbidden = {it["requestId"] for it in self.take("Network.loadingFailed") if it.get("blockedReason") == "csp"}
-        return {it["request"]["url"] for it in self.take("Network.requestWillBeSent") if it["requestId"] not in forbidden}
+        """Returns the addresses that the page has asked for since the last call, without those that its policy
+        forbids."""
+        forbidden = {
+            event["requestId"] for event in self.take("Network.loadingFailed") if event.get("blockedReason") == "csp"
+        }
+        return {
+            event["request"]["url"]
+            for event in self.take("Network.requestWillBeSent")
+            if event["requestId"] not in forbidden
+        }
 
     def open(self, url):
         """Opens a page, and waits until it and its pictures are loaded."""
@@ -162,6 +174,6 @@ class Tab:
         self.call("Emulation.setDeviceMetricsOverride", width=width, height=height, deviceScaleFactor=1, mobile=False)
         self.call("Emulation.setEmulatedMedia", features=[{"name": "prefers-color-scheme", "value": scheme}])
 
-    def picture(self):
-        """Returns what the page looks like, as PNG."""
-        return base64.b64decode(self.call("Page.captureScreenshot", format="png")["data"])
+    def picture(self, **form):
+        """Returns what the page looks like, as PNG or in another form."""
+        return base64.b64decode(self.call("Page.captureScreenshot", **(form or {"format": "png"}))["data"])

@@ -1,9 +1,11 @@
 """Asks bindings/python for .ci/embedding what a mistaken or hostile caller asks, and writes what it answers."""
 
 import inspect
+import pickle
 import pydoc
 
 import cmk
+from cmk import pages
 
 
 class Bytes(bytes):
@@ -36,3 +38,17 @@ except cmk.CmkError as error:
     print(f"CmkError: {error.number!r}", str(error.number), f"{error.number} {error.line}")
 error = cmk.CmkError(99, 0)
 print(f"CmkError: {error.number!r}", str(error.number), f"{error.number} {error.line}")
+
+made = pages.render("<b>[a](javascript:b)")
+for ask in (
+    lambda: pages.with_ids("<h1>"),
+    lambda: pages.with_nofollow(made + "<a>"),
+    lambda: pages.page(made.replace("p", "q"), title="a"),
+    lambda: pages.SafeHtml("<b>"),
+    lambda: pages.render("<b>", safe=False),
+):
+    try:
+        print("no error", ask())
+    except (TypeError, ValueError) as error:
+        print(f"{type(error).__name__}: {error}")
+print(pages.render("<b>[a](javascript:b)", safe=False, no_html=True), type(pickle.loads(pickle.dumps(made))), made.__html__(), end="")

@@ -4,12 +4,14 @@
  *                     FLAGS has 0 or 1 for each of older, strike, no_html and web_links
  *   call rooms        the HTML of a text into rooms of every size, and a line into each
  *   call lines        the line of each number at each place up to 20, behind both
- *   call nothing      a null text of no bytes, with an output that isn't set
+ *   call nothing      a null text of no bytes, a null room, and outputs of any bytes or not set
+ *   call free         the exported cmk_free
  *   call blocks       the size of the block of malloc that HTML comes in
  *   call threads      four threads at once
  *   call bytes        each value of the byte of each rule: all but zero turn it on
  */
 #include <cmk.h>
+#include <dlfcn.h>
 #include <malloc.h>
 #include <pthread.h>
 #include <stddef.h>
@@ -112,13 +114,56 @@ static int lines(void) {
     return 0;
 }
 
+static call *const calls[] = {cmk_html, cmk_tree, cmk_json, cmk_rewrite};
+
+/* Returns whether each call does the same with an output that holds this, for a null text and for a text with a fault. */
+static int any_output(cmk_output held) {
+    cmk_options options = CMK_OPTIONS;
+    size_t at, empty = sizeof "{\"type\":\"root\",\"data\":{\"lines\":[1,0]},\"children\":[]}" - 1;
+    int is_right = 1;
+    for (at = 0; at < sizeof calls / sizeof *calls; at++) {
+        cmk_output done = held, refused = held;
+        uint32_t numbers[2];
+        numbers[0] = calls[at](NULL, 0, &options, &done);
+        numbers[1] = calls[at]("a\xff", 2, &options, &refused);
+        is_right = is_right && numbers[0] == CMK_DONE && done.length == (calls[at] == cmk_json ? empty : 0) && done.size == done.length + 1;
+        is_right = is_right && numbers[1] == CMK_NOT_UTF8 && refused.length == 0 && refused.size == 0 && refused.place == 1;
+        cmk_free(&done);
+        cmk_free(&refused);
+    }
+    return is_right;
+}
+
 static int nothing(void) {
     cmk_options options = CMK_OPTIONS;
-    cmk_output output;
-    uint32_t number = cmk_html(NULL, 0, &options, &output);
-    int is_empty = number == CMK_DONE && output.length == 0 && output.size == 1;
-    cmk_free(&output);
-    return is_empty ? 0 : 3;
+    cmk_output output, unset;
+    cmk_filled filled;
+    int value, is_right = cmk_html_into(NULL, 0, &options, NULL, 0, &filled) == CMK_NO_ROOM && filled.length == 0;
+    for (value = 0; value < 256; value++) {
+        memset(&output, value, sizeof output);
+        is_right = is_right && any_output(output);
+    }
+    is_right = is_right && cmk_html(NULL, 0, &options, &unset) == CMK_DONE && unset.length == 0 && unset.size == 1;
+    cmk_free(&unset);
+    return is_right ? 0 : 3;
+}
+
+/* The exported function has the name of the header's, so it is looked for by that. */
+static int exported(void) {
+    cmk_options options = CMK_OPTIONS;
+    cmk_output output = CMK_OUTPUT;
+    void (*release)(cmk_output *);
+    void *library = dlopen(NULL, RTLD_LAZY);
+    *(void **)&release = dlsym(library, "cmk_free");
+    if (!release || cmk_html("a", 1, &options, &output) != CMK_DONE) {
+        return 3;
+    }
+    release(&output);
+    if (output.size != 0 || output.length != 0 || *output.bytes != 0) {
+        return 3;
+    }
+    release(&output);
+    return dlclose(library) == 0 ? 0 : 3;
 }
 
 /* Returns how many bytes the block of a text's HTML has, for the text so many times. */
@@ -227,6 +272,7 @@ int main(int count, char **words) {
         return strcmp(name, "rooms") == 0 ? rooms()
                : strcmp(name, "lines") == 0 ? lines()
                : strcmp(name, "nothing") == 0 ? nothing()
+               : strcmp(name, "free") == 0 ? exported()
                : strcmp(name, "blocks") == 0 ? blocks()
                : strcmp(name, "threads") == 0 ? threads()
                : strcmp(name, "bytes") == 0 ? bytes() : 2;
