@@ -2,10 +2,11 @@
 
 import random
 
-WORDS = """the of and to in a is that for it as was with be by on not he his but at are this have from or had an they which one you were
-all her she there would their we him been has when who will no more if out so parser text line block inline quote list item leaf marker
-column width char byte tree node render write read stack depth limit label link image title source table row rule first last open close
-begin end naïve café über Größe ελληνικά кириллица 日本語 données""".split()
+WORDS = """the of and to in a is that for it as was with be by on not he his but at are this have from or had an they
+which one you were all her she there would their we him been has when who will no more if out so parser text line block
+inline quote list item leaf marker column width char byte tree node render write read stack depth limit label link image
+title source table row rule first last open close begin end naïve café über Größe ελληνικά кириллица 日本語
+données""".split()
 REFERENCES = 200
 
 

@@ -13,16 +13,18 @@ HERE = pathlib.Path(__file__).resolve().parent
 TOO_MUCH = 5
 # Seconds on the longer text, without those of the start, up to which growth doesn't show.
 SHORT = 0.005
-# How often a growth that is too much is measured again, unless it is more than twice that; the seconds between two such turns, in which
-# what else the machine does may end; and the seconds after which a run is stopped.
+# How often a growth that is too much is measured again, unless it is more than twice that; the seconds between two such
+# turns, in which what else the machine does may end; and the seconds after which a run is stopped.
 AGAIN, PAUSE, STOPPED = 6, 0.1, 10
 
 
 class Growth(typing.NamedTuple):
-    """The least times on a text and on four times the text, in seconds, and whether the program reported a fault on the longer one.
+    """The least times on a text and on four times the text, in seconds, and whether the program reported a fault on the
+    longer one.
 
-    They have what the start of the program takes, a millisecond: what is left without it can be too little to divide by. If the longer text
-    takes next to no time, the other isn't measured. A run that failed, or was stopped, took for ever.
+    They have what the start of the program takes, a millisecond: what is left without it can be too little to divide
+    by. If the longer text takes next to no time, the other isn't measured. A run that failed, or was stopped, took for
+    ever.
     """
 
     once: float | None
@@ -34,7 +36,7 @@ class Growth(typing.NamedTuple):
         return self.four / self.once if self.once and not math.isinf(self.four) else 0
 
     def is_too_much(self, by=1):
-        """Whether it is more than is allowed, or than so many times that."""
+        """Whether it is more than is allowed, or than the given multiple of that."""
         return math.inf in (self.once, self.four) or self.times() > by * TOO_MUCH
 
     def __str__(self):
@@ -76,7 +78,9 @@ class Runner:
         self.program, self.started = str(program), {}
         self.nowhere = os.open(os.devnull, os.O_RDWR)
         self.shim = pathlib.Path(room) / "pieces.so"
-        subprocess.run([os.environ.get("CC", "cc"), "-O2", "-shared", "-fPIC", "-o", self.shim, HERE / "pieces.c"], check=True)
+        subprocess.run(
+            [os.environ.get("CC", "cc"), "-O2", "-shared", "-fPIC", "-o", self.shim, HERE / "pieces.c"], check=True
+        )
 
     def run(self, words, piece, file):
         """Seconds of a processor that a run took, and its status."""
@@ -103,7 +107,8 @@ class Runner:
         return (took if status in (0, 1) else math.inf), status == 1
 
     def growth(self, words, piece, lengths, times=1):
-        """The growth from one length of a text to four times that. It is too much only if the one from there to four times that is too."""
+        """The growth from one length of a text to four times that. It is too much only if the one from there to four
+        times that is too."""
         found = self.steady_growth(words, piece, lengths.at(times), lengths.at(4 * times))
         if times > 1 or not found.is_too_much() or found.is_too_much(2):
             return found
@@ -123,5 +128,7 @@ class Runner:
             if not found.is_too_much() or (turn and found.is_too_much(2)):
                 break
             time.sleep(PAUSE)
-            found = Growth(*(min(least, self.seconds(words, piece, file)[0]) for least, file in zip(found, (once, four))), refused)
+            found = Growth(
+                *(min(least, self.seconds(words, piece, file)[0]) for least, file in zip(found, (once, four))), refused
+            )
         return found

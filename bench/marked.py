@@ -10,10 +10,10 @@ import argparse
 import random
 import sys
 
-WORDS = """the of and to in is it that was for on are with as his they be at one have this from by hot word but what some we can out
-other were all there when up use your how said an each she which do their time if will way about many then them write would like so
-these her long make thing see him two has look more day could go come did number sound no most people my over know water than call
-first who may down side been now find""".split()
+WORDS = """the of and to in is it that was for on are with as his they be at one have this from by hot word but what
+some we can out other were all there when up use your how said an each she which do their time if will way about many
+then them write would like so these her long make thing see him two has look more day could go come did number sound no
+most people my over know water than call first who may down side been now find""".split()
 
 
 class Writer:
@@ -85,14 +85,17 @@ def text(size, one_in, seed=1):
     return definitions + "\n" + blocks * -(-size // len(blocks))
 
 
-def main():
-    words = argparse.ArgumentParser(description=__doc__, formatter_class=argparse.RawDescriptionHelpFormatter)
-    words.add_argument("megabytes", type=float)
-    words.add_argument("one_in", type=int)
-    words.add_argument("seed", type=int, nargs="?", default=1)
-    asked = words.parse_args()
+def main() -> int:
+    parser = argparse.ArgumentParser(description=__doc__.partition("\n\n")[0])
+    parser.add_argument("megabytes", type=float, metavar="MEGABYTES", help="the length of the text")
+    parser.add_argument("one_in", type=int, metavar="ONE_IN", help="how many words have one that is marked")
+    parser.add_argument(
+        "seed", type=int, nargs="?", default=1, metavar="SEED", help="where the random numbers start (1)"
+    )
+    asked = parser.parse_args()
     sys.stdout.write(text(int(asked.megabytes * 1_000_000), asked.one_in, asked.seed))
+    return 0
 
 
 if __name__ == "__main__":
-    main()
+    sys.exit(main())

@@ -25,7 +25,10 @@ PEERS = {
     "pulldown-cmark-newer": (NEWER / "pulldown-cmark_*.deb", [str(NEWER / "pulldown-cmark/usr/bin/pulldown-cmark")]),
     "comrak": (NEWER / "librust-comrak-dev_*.deb", [str(OUT / "comrak")]),
     "goldmark": ("golang-github-yuin-goldmark-dev", [str(OUT / "goldmark")]),
-    "markdown-it": (NODE / "markdown-it/package.json", ["/usr/bin/env", f"NODE_PATH={NODE}", "node", str(HERE / "markdown_it_driver.js")]),
+    "markdown-it": (
+        NODE / "markdown-it/package.json",
+        ["/usr/bin/env", f"NODE_PATH={NODE}", "node", str(HERE / "markdown_it_driver.js")],
+    ),
     "lowdown": ("lowdown", ["lowdown", "-thtml"]),
     "discount": ("discount", ["markdown", "-f", "+fencedcode"]),
     "markdown-it-py": ("python3-markdown-it", ["/usr/bin/python3", "-X", "utf8", "-c", MARKDOWN_IT]),
@@ -42,7 +45,8 @@ ANY_PACE = 10**18
 
 
 class Used(typing.NamedTuple):
-    """What one run took: seconds of a processor, bytes at the most, its exit status, and the processor's pace (`measure.c`)."""
+    """What one run took: seconds of a processor, bytes at the most, its exit status, and the processor's pace
+    (`measure.c`)."""
 
     seconds: float
     memory: int
@@ -84,7 +88,8 @@ def full_pace():
 
 
 def run(words, file, seconds=120, output=subprocess.DEVNULL, pace=ANY_PACE):
-    """Runs a program on a file, with up to the given number of seconds of a processor, on one of this pace if there is one."""
+    """Runs a program on a file, with up to the given number of seconds of a processor, on one of this pace if there is
+    one."""
     with open(file, "rb") as given:
         asked = [str(OUT / "measure"), str(seconds), str(pace), *words]
         told = subprocess.run(asked, stdin=given, stdout=output, stderr=subprocess.PIPE, text=True).stderr
@@ -122,4 +127,6 @@ def least(runs):
     """The least time of some runs and their greatest memory, or None where one failed."""
     if any(used.status for used in runs):
         return None
-    return Used(min(used.seconds for used in runs), max(used.memory for used in runs), 0, max(used.pace for used in runs))
+    return Used(
+        min(used.seconds for used in runs), max(used.memory for used in runs), 0, max(used.pace for used in runs)
+    )

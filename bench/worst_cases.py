@@ -1,15 +1,16 @@
 #!/usr/bin/env python3
 """Reports how much a byte of text may become: for each kind of text the output and the memory of a run, per byte.
 
-  bench/worst_cases.py PROGRAM [SIZE]     texts of about so many bytes (1,000,000)
+  bench/worst_cases.py PROGRAM [SIZE]     texts of about SIZE bytes (1,000,000)
 
-A line for each kind of text and each job: bytes of output and bytes of memory for a byte of text. Memory is the largest resident set
-of the run, without the 2 MB that a run of an empty text holds. An output that grows as the square of the text isn't counted, and such
-a text isn't rewritten, since its source is held whole.
+A line for each kind of text and each job: bytes of output and bytes of memory for a byte of text. Memory is the largest
+resident set of the run, without the 2 MB that a run of an empty text holds. An output that grows as the square of the
+text isn't counted, and such a text isn't rewritten, since its source is held whole.
 """
 
 import argparse
 import subprocess
+import sys
 import tempfile
 
 from programs import run
@@ -43,7 +44,9 @@ def each_twice(size):
 KINDS = {
     SQUARE: lambda size: f"[x]: {'a' * (size // 2)}\n\n" + "[x]" * (size // 6),
     "references to an address of 63 bytes": behind(f"[x]: {'a' * 63}\n\n", "[x]"),
-    "the same, each byte percent-encoded, with a title of quotation marks": behind(f"[x]: {'ä' * 31} '{chr(34) * 63}'\n\n", "[x]"),
+    "the same, each byte percent-encoded, with a title of quotation marks": behind(
+        f"[x]: {'ä' * 31} '{chr(34) * 63}'\n\n", "[x]"
+    ),
     "the same in paragraphs": behind(f"[x]: {'ä' * 31} '{chr(34) * 63}'\n\n", "[x]\n\n"),
     "an address behind each link, percent-encoded": times("[](ä)"),
     "definitions": numbered(lambda n: f"[{n:x}]:/\n"),
@@ -83,11 +86,13 @@ def measured(program, job, file, name, text):
     return f"{written} {max(0, used.memory - EMPTY) / size:7.1f}"
 
 
-def main():
-    words = argparse.ArgumentParser(description=__doc__, formatter_class=argparse.RawDescriptionHelpFormatter)
-    words.add_argument("program")
-    words.add_argument("size", type=int, nargs="?", default=1_000_000)
-    asked = words.parse_args()
+def main() -> int:
+    parser = argparse.ArgumentParser(description=__doc__.partition("\n\n")[0])
+    parser.add_argument("program", metavar="PROGRAM", help="a built cmk")
+    parser.add_argument(
+        "size", type=int, nargs="?", default=1_000_000, metavar="SIZE", help="about how many bytes a text has (1000000)"
+    )
+    asked = parser.parse_args()
     program, size = asked.program, asked.size
     print("render           tree             rewrite          (output and memory for a byte of text)")
     for name, make in KINDS.items():
@@ -98,7 +103,8 @@ def main():
             jobs = ("render", "tree") if name == SQUARE else ("render", "tree", "rewrite")
             figures = [measured(program, job, file.name, name, text) for job in jobs]
             print(f"{'  '.join(figures):50} {name}", flush=True)
+    return 0
 
 
 if __name__ == "__main__":
-    main()
+    sys.exit(main())
