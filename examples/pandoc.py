@@ -16,17 +16,17 @@ def element(name, *content):
     return {"t": name, "c": content[0] if len(content) == 1 else content} if content else {"t": name}
 
 
-def words(text):
-    """Returns the words of a text with the spaces between them."""
-    return [element("Space") if it[0] in " \t\n" else element("Str", it) for it in re.findall(r"[ \t\n]+|[^ \t\n]+", text)]
+def words(text, line_feed="Space"):
+    """Returns the words of a text with what is between them: spaces, and this for each line feed."""
+    names = {" ": "Space", "\t": "Space", "\n": line_feed}
+    return [element(names[it[0]]) if it[0] in names else element("Str", it) for it in re.findall(r"\n|[ \t]+|[^ \t\n]+", text)]
 
 
 def inline(node):
     """Returns the elements of an inline."""
     kind = node["type"]
     if kind == "text":
-        is_soft = node["value"] == "\n" and "data" not in node
-        return [element("SoftBreak")] if is_soft else words(node["value"])
+        return words(node["value"], "Space" if "data" in node else "SoftBreak")
     if kind == "break":
         return [element("LineBreak")]
     if kind == "inlineCode":

@@ -1,4 +1,7 @@
-"""Writes the HTML of a tree in JSON, as `cmk render` writes it: cmk tree --json FILE | python3 render_tree.py"""
+"""Writes the HTML of a tree in JSON, as `cmk render` writes it: cmk tree --json FILE | python3 render_tree.py
+
+`html` also takes the tables and tasks of `cmk.pages.parse`.
+"""
 import json
 import sys
 import urllib.parse
@@ -7,9 +10,11 @@ import urllib.parse
 KEPT = "-_.+!*'(),%#@?=;:/&$~"
 # What is written before and after what is inside a node.
 TAGS = {
-    "root": ("", ""), "paragraph": ("<p>", "</p>\n"), "blockquote": ("<blockquote>\n", "</blockquote>\n"), "thematicBreak": ("<hr />\n", ""),
-    "emphasis": ("<em>", "</em>"), "strong": ("<strong>", "</strong>"), "delete": ("<del>", "</del>"), "break": ("<br />\n", ""),
+    "root": ("", ""), "paragraph": ("<p>", "</p>\n"), "blockquote": ("<blockquote>\n", "</blockquote>\n"),
+    "thematicBreak": ("<hr />\n", ""), "emphasis": ("<em>", "</em>"), "strong": ("<strong>", "</strong>"),
+    "delete": ("<del>", "</del>"), "break": ("<br />\n", ""),
 }  # fmt: skip
+BOXES = {True: '<input type="checkbox" checked="" disabled="" /> ', False: '<input type="checkbox" disabled="" /> '}
 
 
 def escaped(text):
@@ -32,13 +37,29 @@ def source(node):
 
 def item_parts(item):
     """Returns the parts of an item. In a tight list a paragraph is written as its inlines alone."""
-    found, after_inlines = ["<li>"], True
-    for block in item["children"]:
+    found, after_inlines, blocks = ["<li>"], True, item["children"]
+    if "checked" in item:
+        blocks = [{**blocks[0], "children": [BOXES[item["checked"]], *blocks[0]["children"]]}, *blocks[1:]]
+    for block in blocks:
         if block["type"] != "definition":
             is_bare = block["type"] == "paragraph" and not item["spread"]
             found += ["\n"] * (after_inlines and not is_bare) + (block["children"] if is_bare else [block])
             after_inlines = is_bare
     return [*found, "</li>\n"]
+
+
+def row_parts(name, row, sides):
+    """Returns the parts of a row of a table, with cells of this name."""
+    cells = [(tag(name, align=side) + ">", *it["children"], f"</{name}>\n") for it, side in zip(row["children"], sides)]
+    return ["<tr>\n", *(part for cell in cells for part in cell), "</tr>\n"]
+
+
+def table_parts(table):
+    """Returns the parts of a table, whose first row is its head."""
+    head, *rows = table["children"]
+    body = [part for row in rows for part in row_parts("td", row, table["align"])]
+    found = ["<table>\n<thead>\n", *row_parts("th", head, table["align"]), "</thead>\n"]
+    return [*found, *(["<tbody>\n", *body, "</tbody>\n"] if body else []), "</table>\n"]
 
 
 def parts(node):
@@ -54,6 +75,8 @@ def parts(node):
         return [tag(name, start=None if node["start"] == 1 else node["start"]) + ">\n", *inside, f"</{name}>\n"]
     if kind == "listItem":
         return item_parts(node)
+    if kind == "table":
+        return table_parts(node)
     if kind == "code":
         start = tag("code", **{"class": node["lang"] and f"language-{node['lang']}"})
         return [f"<pre>{start}>{escaped(source(node))}</code></pre>\n"]

@@ -1,10 +1,10 @@
 #!/usr/bin/env python3
-"""A forum in which strangers write CommonMark: a WSGI application over SQLite and the installed library.
+"""A forum of CommonMark for untrusted users: a WSGI application over SQLite and the installed library.
 
   python3 examples/forum/forum.py [--port N] [FILE]
 
 It serves to this machine only, with waitress, prints its address, and keeps the posts in FILE, or in memory. Each post
-is rendered once, with `safe=True`, and its HTML is stored next to its source. `Forum` is the application for another
+is rendered once, with the safe rules, and its HTML is stored next to its source. `Forum` is the application for another
 server. In public, put a proxy before it that speaks TLS and limits the connections of each address.
 """
 
@@ -21,6 +21,7 @@ import urllib.parse
 
 sys.path.append(str(pathlib.Path(__file__).resolve().parents[2] / "bindings/python"))
 import cmk  # noqa: E402
+from cmk import pages  # noqa: E402
 
 # References to a long title make the HTML grow with the square of the text, so both are limited, and so is the memory
 # of the process. A text that is too long for a post still fits into a form, which then comes back with it.
@@ -101,9 +102,8 @@ def refusal(error, text):
 
 
 def adapted(made):
-    """Returns the HTML of a text for a page. In it `<` only starts tags, which the library writes as here."""
-    made = re.sub("(</?h)([1-5])>", lambda it: f"{it[1]}{int(it[2]) + 1}>", made)
-    made = made.replace('<a href="', '<a rel="nofollow ugc" href="')
+    """Returns the HTML of a text for a page. In it `<` only starts tags, so a pattern finds just the images."""
+    made = pages.with_nofollow(pages.with_lower_headings(made))
     shown = r'<span class="image">Image, not loaded: \2 (\1)</span>'
     return re.sub(r'<img src="([^"]*)" alt="([^"]*)"(?: title="[^"]*")? />', shown, made)
 
@@ -111,7 +111,7 @@ def adapted(made):
 def rendered(text):
     """Returns the HTML of a post."""
     try:
-        made = cmk.html(text, safe=True, bytes=MOST_TEXT, blocks=DEEPEST, inlines=DEEPEST)
+        made = pages.render(text, bytes=MOST_TEXT, blocks=DEEPEST, inlines=DEEPEST)
     except cmk.CmkError as error:
         raise refusal(error, text) from error
     if not made:

@@ -30,8 +30,8 @@ if TYPE_CHECKING:
 # fmt: off
 __all__ = [
     "Block", "Blockquote", "Break", "CmkError", "Code", "Definition", "Delete", "Emphasis", "Fault", "Heading", "Html",
-    "Image", "Inline", "InlineCode", "Link", "List", "ListItem", "Node", "Options", "Paragraph", "Root", "Source",
-    "Strong", "Text", "ThematicBreak", "html", "json", "parse", "rewrite", "tree", "version", "walk",
+    "Image", "Inline", "InlineCode", "Link", "List", "ListItem", "Node", "Options", "Paragraph", "Reason", "Root",
+    "Source", "Strong", "Text", "ThematicBreak", "html", "json", "parse", "rewrite", "tree", "version", "walk",
 ]
 # fmt: on
 
@@ -99,7 +99,7 @@ def _declare(library: ctypes.CDLL) -> None:
     for call in (library.cmk_html, library.cmk_tree, library.cmk_json, library.cmk_rewrite):
         call.argtypes = [ctypes.c_char_p, ctypes.c_size_t, ctypes.POINTER(_Options), ctypes.POINTER(_Output)]
         call.restype = ctypes.c_uint32
-    room = [ctypes.c_char_p, ctypes.c_size_t, ctypes.POINTER(_Filled)]
+    room: list[Any] = [ctypes.c_char_p, ctypes.c_size_t, ctypes.POINTER(_Filled)]
     library.cmk_fault_text.argtypes = [ctypes.c_uint32, ctypes.c_size_t, *room]
     library.cmk_fault_text.restype = ctypes.c_uint32
     library.cmk_version.argtypes, library.cmk_version.restype = [], ctypes.c_uint32
@@ -128,6 +128,12 @@ class RootData(Lines, total=False):
     """The `data` of the document: `[1, n]` for n lines, and the lines that have only markers, if there are any."""
 
     markers: list[int]
+
+
+class DefinitionData(Lines, total=False):
+    """The `data` of a definition: its lines, and its label as the text has it, unless it is `label`."""
+
+    label: str
 
 
 class ListData(TypedDict):
@@ -178,7 +184,7 @@ class ThematicBreak(TypedDict):
 
 class Definition(TypedDict):
     type: Literal["definition"]
-    data: Lines
+    data: DefinitionData
     identifier: str
     label: str
     url: str
@@ -222,7 +228,7 @@ class _Text(TypedDict):
 
 
 class Text(_Text, total=False):
-    """Text, or a soft line break, which is one line feed. `data` is there if a character reference makes it."""
+    """Text with the soft line breaks in it, a line feed for each. `data` is there if a character reference makes a line feed."""
 
     data: TextData
 
@@ -316,11 +322,37 @@ class Fault(enum.IntEnum):
     __str__ = int.__repr__
 
 
+class Reason(enum.IntEnum):
+    """Why a tree can't be written as source: the place of `Fault.CANNOT_SPELL`. docs/cmk.md describes the reasons."""
+
+    DEFINITION = 1
+    NUL = 2
+    SHAPE = 3
+    TEXT = 4
+    EMPHASIS_NESTED = 5
+    EMPHASIS_TOUCHING = 6
+    EMPHASIS_EDGE = 7
+    CODE_SPAN = 8
+    RAW_HTML = 9
+    LINK_IN_LINK = 10
+    LINE_BREAK = 11
+    CODE_TEXT = 12
+    HTML_BLOCK = 13
+    ADJACENT_LISTS = 14
+    ITEM_BEGINS_WITH_LIST = 15
+    LOOSENESS = 16
+    STRIKE_OFF = 17
+    ADDRESS_OFF = 18
+    INFO_OFF = 19
+
+    __str__ = int.__repr__
+
+
 class CmkError(Exception):
     """Why there is no output.
 
     `number` is a `Fault`, or an int if a newer library returns one that isn't there. `place` is the byte, the line or
-    the leaf, or the number of the reason. `line` is the line that the program prints.
+    the leaf, or a `Reason`. `line` is the line that the program prints.
 
     >>> try:
     ...     html(bytes([97, 98, 255]))
@@ -331,7 +363,9 @@ class CmkError(Exception):
 
     def __init__(self, number: int, place: int) -> None:
         self.number: int = Fault(number) if number in Fault.__members__.values() else number
-        self.place, self.line = place, _line(number, place)
+        is_reason = number == Fault.CANNOT_SPELL and place in Reason.__members__.values()
+        self.place: int = Reason(place) if is_reason else place
+        self.line = _line(number, place)
         super().__init__(self.line)
 
     def __reduce__(self) -> tuple[type["CmkError"], tuple[int, int]]:
@@ -378,8 +412,7 @@ def _called(call: Callable[..., int], text: Source, options: Options) -> str:
     unknown = sorted(options.keys() - Options.__annotations__.keys())
     if unknown:
         raise TypeError(f"cmk has no option {unknown[0]!r}; its options are {', '.join(Options.__annotations__)}")
-    asked, given, output, nothing = _asked(**options), _encoded(text), _Output(), ctypes.c_char(0)
-    output.bytes = ctypes.addressof(nothing)
+    asked, given, output = _asked(**options), _encoded(text), _Output()
     number = call(given, len(given), ctypes.byref(asked), ctypes.byref(output))
     if number:
         raise CmkError(number, output.place)

@@ -12,7 +12,7 @@
 //! ```
 //!
 //! Any number of threads may call at once. By default raw HTML in a text is written unchanged, and `javascript:`
-//! links stay. For texts from strangers there is [`Options::SAFE`].
+//! links stay. For untrusted text there is [`Options::SAFE`].
 //!
 //! ```
 //! let html = cmk::html("<b>a</b> [b](javascript:c)", &cmk::Options::SAFE).unwrap();
@@ -50,7 +50,7 @@ pub struct Options {
 }
 
 impl Options {
-    /// For texts from strangers, as with `cmk --safe`.
+    /// For untrusted text, as with `cmk --safe`.
     pub const SAFE: Options =
         Options { bytes: 0, blocks: 0, inlines: 0, older: false, strike: false, no_html: true, web_links: true };
 }
@@ -101,7 +101,7 @@ pub enum Fault {
     InlinesTooDeep = 4,
     /// A refused allocation left no result.
     NoMemory = 5,
-    /// The tree can't be written as source. The place is the number of the reason.
+    /// The tree can't be written as source. The place is a [`Reason`].
     CannotSpell = 8,
     /// An option is out of its range.
     OutOfRange = 11,
@@ -123,12 +123,82 @@ impl Fault {
     ];
 }
 
+/// Why a tree can't be written as source: the place of [`Fault::CannotSpell`]. docs/cmk.md describes the reasons.
+#[derive(Clone, Copy, Debug, PartialEq, Eq, Hash)]
+#[non_exhaustive]
+#[repr(usize)]
+pub enum Reason {
+    /// A definition.
+    Definition = 1,
+    /// U+0000.
+    Nul = 2,
+    /// A malformed node.
+    Shape = 3,
+    /// An empty or divided text.
+    Text = 4,
+    /// Emphasis in emphasis.
+    EmphasisNested = 5,
+    /// Emphasis beside emphasis.
+    EmphasisTouching = 6,
+    /// An edge of emphasis.
+    EmphasisEdge = 7,
+    /// A code span.
+    CodeSpan = 8,
+    /// Raw HTML.
+    RawHtml = 9,
+    /// A link in a link.
+    LinkInLink = 10,
+    /// A line break.
+    LineBreak = 11,
+    /// The text of a code block.
+    CodeText = 12,
+    /// An HTML block.
+    HtmlBlock = 13,
+    /// Two lists of one type side by side.
+    AdjacentLists = 14,
+    /// An item that begins with a list.
+    ItemBeginsWithList = 15,
+    /// A loose or tight list.
+    Looseness = 16,
+    /// Strikethrough while it is off.
+    StrikeOff = 17,
+    /// An address that isn't followed.
+    AddressOff = 18,
+    /// An info of several lines while raw HTML is off.
+    InfoOff = 19,
+}
+
+impl Reason {
+    /// Every reason.
+    pub const ALL: [Reason; 19] = [
+        Reason::Definition,
+        Reason::Nul,
+        Reason::Shape,
+        Reason::Text,
+        Reason::EmphasisNested,
+        Reason::EmphasisTouching,
+        Reason::EmphasisEdge,
+        Reason::CodeSpan,
+        Reason::RawHtml,
+        Reason::LinkInLink,
+        Reason::LineBreak,
+        Reason::CodeText,
+        Reason::HtmlBlock,
+        Reason::AdjacentLists,
+        Reason::ItemBeginsWithList,
+        Reason::Looseness,
+        Reason::StrikeOff,
+        Reason::AddressOff,
+        Reason::InfoOff,
+    ];
+}
+
 /// Why there is no output. Its `Display` is the line that the program prints.
 #[derive(Clone, Copy, Debug, PartialEq, Eq)]
 pub struct Error {
     /// What the library returned, as [`Error::fault`] names it.
     pub number: u32,
-    /// The byte, the line or the leaf of the fault, or the number of the reason why a tree can't be spelled.
+    /// The byte, the line or the leaf of the fault, or the number of a [`Reason`].
     pub place: usize,
 }
 
@@ -141,6 +211,17 @@ impl Error {
     /// ```
     pub fn fault(&self) -> Option<Fault> {
         Fault::ALL.into_iter().find(|it| *it as u32 == self.number)
+    }
+
+    /// The reason why a tree can't be written as source, if that is the fault, and the reason is in this crate.
+    ///
+    /// ```
+    /// let error = cmk::rewrite("*a **b***", &cmk::Options::default()).unwrap_err();
+    /// assert_eq!(error.reason(), Some(cmk::Reason::EmphasisNested));
+    /// ```
+    pub fn reason(&self) -> Option<Reason> {
+        let is_place = |it: &Reason| self.fault() == Some(Fault::CannotSpell) && *it as usize == self.place;
+        Reason::ALL.into_iter().find(is_place)
     }
 }
 
@@ -208,8 +289,8 @@ impl Drop for Text {
 
 /// What a call gives for a text.
 fn called(call: Call, text: &[u8], options: &Options) -> Result<Text, Error> {
-    let mut output = Output { bytes: b"".as_ptr(), size: 0, length: 0, place: 0 };
-    // SAFETY: no pointer is null, also that of an empty text, and nothing else refers to the output.
+    let mut output = Output { bytes: std::ptr::null(), size: 0, length: 0, place: 0 };
+    // SAFETY: the text has that many bytes, and nothing else refers to the output.
     match unsafe { call(text.as_ptr(), text.len(), options, &mut output) } {
         0 => {
             let text = Text(output);

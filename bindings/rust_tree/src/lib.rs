@@ -21,12 +21,15 @@
 //!     left.extend(node.children());
 //! }
 //! assert_eq!(nodes, 1 + 2 * 500 + 1 + 500 + 3 * 250);
+//!
+//! let images = format!("{}{}*a*{}", "- ".repeat(500), "![".repeat(499), "](b)".repeat(499));
+//! assert!(cmk_tree::parse(images, &options).is_ok());
 //! ```
 
 use serde::Deserialize;
 use std::thread;
 
-/// The stack of the thread, in bytes. The deepest trees take less than 16 MiB without optimisation.
+/// The stack of the thread, in bytes. The deepest trees take less than 24 MiB without optimisation.
 const STACK: usize = 64 << 20;
 
 /// The first and the last line of a leaf, counted from 1.
@@ -67,9 +70,13 @@ pub enum Node {
     ThematicBreak {
         lines: Lines,
     },
+    /// A link reference definition. `identifier` is its label as labels are compared. `source_label` is there if escapes and references
+    /// make `label` another text.
     Definition {
         lines: Lines,
+        identifier: String,
         label: String,
+        source_label: Option<String>,
         url: String,
         title: Option<String>,
     },
@@ -87,10 +94,11 @@ pub enum Node {
         spread: bool,
         children: Vec<Node>,
     },
+    /// A text. Each line feed in it is a soft line break, unless `character_reference` says that a reference makes it.
     Text {
         value: String,
+        character_reference: bool,
     },
-    SoftBreak,
     Break,
     Emphasis {
         children: Vec<Node>,
@@ -153,6 +161,7 @@ struct Members {
     lang: Option<String>,
     meta: Option<String>,
     value: String,
+    identifier: String,
     label: String,
     url: String,
     title: Option<String>,
@@ -169,6 +178,7 @@ struct Data {
     info: Option<String>,
     final_newline: Option<bool>,
     marker: char,
+    label: Option<String>,
     character_reference: bool,
     children: Option<Vec<Node>>,
 }
@@ -177,8 +187,22 @@ impl TryFrom<Members> for Node {
     type Error = String;
 
     fn try_from(members: Members) -> Result<Node, String> {
-        let Members { r#type, data, children, depth, lang, meta, mut value, label, url, title, start, spread, alt } =
-            members;
+        let Members {
+            r#type,
+            data,
+            children,
+            depth,
+            lang,
+            meta,
+            mut value,
+            identifier,
+            label,
+            url,
+            title,
+            start,
+            spread,
+            alt,
+        } = members;
         let lines = data.lines.unwrap_or_default();
         if matches!((&*r#type, data.lines), ("code" | "html", Some(_))) && data.final_newline != Some(false) {
             value.push('\n');
@@ -190,12 +214,11 @@ impl TryFrom<Members> for Node {
             "code" => Node::Code { lines, lang, meta, info: data.info, value },
             "html" if data.lines.is_some() => Node::HtmlBlock { lines, value },
             "thematicBreak" => Node::ThematicBreak { lines },
-            "definition" => Node::Definition { lines, label, url, title },
+            "definition" => Node::Definition { lines, identifier, label, source_label: data.label, url, title },
             "blockquote" => Node::Blockquote { children },
             "list" => Node::List { marker: data.marker, start, spread, children },
             "listItem" => Node::ListItem { spread, children },
-            "text" if value == "\n" && !data.character_reference => Node::SoftBreak,
-            "text" => Node::Text { value },
+            "text" => Node::Text { value, character_reference: data.character_reference },
             "break" => Node::Break,
             "emphasis" => Node::Emphasis { children },
             "strong" => Node::Strong { children },
@@ -204,7 +227,7 @@ impl TryFrom<Members> for Node {
             "html" => Node::Html { value },
             "link" => Node::Link { url, title, children },
             "image" => {
-                let text = alt.iter().filter(|alt| !alt.is_empty()).map(|alt| Node::Text { value: alt.clone() });
+                let text = alt.iter().filter(|alt| !alt.is_empty()).map(|alt| Node::Text { value: alt.clone(), character_reference: alt.contains('\n') });
                 let children = data.children.unwrap_or_else(|| text.collect());
                 Node::Image { url, title, alt, children }
             }
