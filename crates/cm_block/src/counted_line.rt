@@ -1,9 +1,9 @@
-//! A line that is held unread: only calls that count hand out a reading of it, so that a contract can bound how
-//! often a line is read.
+//! A line that is held unread: only calls that count hand out a reading of it, so that a contract can bound
+//! how often a line is read.
 //!
 //! Without a count it shows its length and whether it is marked as lazy, and nothing else. A reading can't be
-//! copied, and a scanner uses it up. The scanners are in this module's own modules; what decides which of them run is
-//! outside, in `line_tests`, where a line is out of reach without a count.
+//! copied, and a scanner uses it up. The scanners are in this module's own modules; what decides which of
+//! them run is outside, in `line_tests`, where a line is out of reach without a count.
 //!
 //! Copying a line counts as one reading although nothing is examined, so the count is at least the number of
 //! checks and searches. Each of several lines of text counts as two: a look at its first byte, and the copy.

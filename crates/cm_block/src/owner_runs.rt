@@ -8,7 +8,8 @@
 //!
 //! Runs are kept even if no caller asks for owners, so that each contract has one form. Without them an
 //! unproved program took 0.5 to 1.5 percent fewer instructions.
-ghost use Rattle.std.specs.Prelude.{◌≡◌, ◌≤◌, ◌<◌, ◌^◌, ◌++◌, ℕ, [], suc, length, replicate, IfOk, OnOk, OnErr};
+ghost use Rattle.std.specs.Prelude.{◌≡◌, ◌≤◌, ◌<◌, ◌^◌, ◌++◌, ℕ, [], suc, length, replicate};
+ghost use Rattle.std.specs.Prelude.{IfOk, OnOk, OnErr};
 ghost use Rattle.cm_block.specs.OwnerRuns.{leaves_with, owner_of};
 ghost use Rattle.cm_block.specs.Stack.{blank_owner};
 ghost use Rattle.cm_tree.specs.declared.tree.Owner.TheVariants as owner;
@@ -46,9 +47,9 @@ pub(crate) struct OwnerRun {
     pub(crate) lines: u16,
 }
 
-/// The owner of each line so far, which says how many leaves there are. Consecutive lines with the same owner,
-/// and the blank lines after them, take the memory of one. Each leaf starts a run, so there are no more leaves
-/// than runs.
+/// The owner of each line so far, which says how many leaves there are. Consecutive lines with the same
+/// owner, and the blank lines after them, take the memory of one. Each leaf starts a run, so there are no
+/// more leaves than runs.
 #[derive(Debug, Drop)]
 pub(crate) struct OwnerRuns {
     closed: Vec<OwnerRun>,

@@ -1,7 +1,7 @@
 //! Tips in the text about a wrong command line.
 //!
-//! `clap` can't know what is meant by a file without a command, or by `render --json`. And of an unknown option
-//! it says how to pass it as a file, which is wrong where a file is given already.
+//! `clap` can't know what is meant by a file without a command, or by `render --json`. For an unknown option,
+//! it suggests how to pass it as a file, which is wrong where a file is given already.
 
 use clap::error::ErrorKind;
 use std::alloc::{AllocError, Global};

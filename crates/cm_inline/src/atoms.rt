@@ -220,8 +220,8 @@ fn angle<L: Ledger>(
     }
 }
 
-/// Where the raw HTML at a place ends, if the rules have any. An end that is known to be missing isn't searched
-/// for, and what was searched for in vain is remembered.
+/// Where the raw HTML at a place ends, if the rules have any. An end that is known to be missing isn't
+/// searched for, and what was searched for in vain is remembered.
 fn raw_html<L: Ledger>(
     rules: Rules,
     source: &str,

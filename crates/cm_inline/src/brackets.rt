@@ -51,7 +51,8 @@ pub(crate) struct Reader {
     pub(crate) links: Vec<Link>,
     /// The brackets that nothing was made of yet.
     pub(crate) brackets: Vec<Bracket>,
-    /// The number of marks up to the last one that ends a link. A `[` among them is inactive: it makes no link.
+    /// The number of marks up to the last one that ends a link. A `[` among them is inactive: it makes no
+    /// link.
     pub(crate) links_end: usize,
     /// Whether a line feed with no space before it is wanted as a mark: HTML has it as it is.
     pub(crate) lines: bool,

@@ -119,7 +119,8 @@ fn boxed_destination(
     is_address: bool,
     text: &str,
 ) -> Result<BoxedText, AllocError>
-    ensures destination { IfOk result (λ dest. dest ≡ (if is_address then codes "mailto:" ++ text.now else text.now)) }
+    ensures destination { IfOk result (λ dest.
+        dest ≡ (if is_address then codes "mailto:" ++ text.now else text.now)) }
 {
     if !is_address {
         return spare.boxed(text);

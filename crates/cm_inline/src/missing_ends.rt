@@ -1,9 +1,9 @@
 //! What is known to be missing in the rest of a leaf's source, so that no search is made twice.
 //!
-//! For comments, instructions, CDATA sections and declarations that is where one started in vain last: none that
-//! starts later has an end. For code spans it is where the last backtick string of each length ends, found in
-//! one pass the first time that one is missing. Open tags need no memory: at most three of them are open at any
-//! place, whatever `<` and quotation marks a text has (`tags_reach_thrice` in `cm_scan`).
+//! For comments, instructions, CDATA sections and declarations that is where one started in vain last: none
+//! that starts later has an end. For code spans it is where the last backtick string of each length ends,
+//! found in one pass the first time that one is missing. Open tags need no memory: at most three of them are
+//! open at any place, whatever `<` and quotation marks a text has (`tags_reach_thrice` in `cm_scan`).
 ghost use Rattle.std.specs.Prelude.{◌≡◌, ◌+◌, ◌≤◌, ◌∷◌, true, None, nat_lt, IfOk, OnOk, IfSome};
 ghost use Rattle.cm_scan.specs.spans.Reach.{needed, needed_after_mark};
 ghost use Rattle.cm_inline.specs.steps.Missing.{Starts, missing_from, remembered, AreLast, Knows, NoneFrom};
@@ -48,8 +48,8 @@ pub(crate) fn form_of<L: Ledger>(
     }
 }
 
-/// The form that starts with `<!`, from after that on. What is refused for another reason than its end is none:
-/// its end would be searched for at each place.
+/// The form that starts with `<!`, from after that on. What is refused for another reason than its end is
+/// none: its end would be searched for at each place.
 fn form_after_mark<L: Ledger>(older: bool, inside: &Rest<'_>, looks: &mut Looks<L>) -> Option<Form>
     ensures start { IfSome result (Starts older (60 ∷ 33 ∷ inside.now)) }
     ensures none { result ≡ None → needed_after_mark older inside.now ≡ 0 }

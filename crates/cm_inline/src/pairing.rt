@@ -1,5 +1,5 @@
-//! The pairs that are made of delimiter runs (CommonMark 0.31.2, 6.2 Emphasis and strong emphasis). Each kind of
-//! closer has a bottom: no run below that number opens for such a closer.
+//! The pairs that are made of delimiter runs (CommonMark 0.31.2, 6.2 Emphasis and strong emphasis). Each kind
+//! of closer has a bottom: no run below that number opens for such a closer.
 //!
 //! These functions have the list, and none of its fields: an entry is read only by `look`, which counts.
 ghost use Rattle.std.specs.Prelude.{◌≡◌, ◌≢◌, ◌+◌, ◌-◌, ◌<◌, ◌≤◌, ◌^◌, ◌++◌, [], ◌∷◌, suc};

@@ -1,5 +1,5 @@
-//! The delimiter runs of a leaf, and the list of those before a closer that may open: entries linked both ways
-//! by their numbers, any of which can be taken out. An entry is read only by a call that counts.
+//! The delimiter runs of a leaf, and the list of those before a closer that may open: entries linked both
+//! ways by their numbers, any of which can be taken out. An entry is read only by a call that counts.
 //!
 //! The run at hand is the last entry while it pairs. So an entry is looked at in vain at most once for each
 //! kind of closer, and once more if it is taken out between a pair. A pair takes one look, and at least a
@@ -250,7 +250,8 @@ impl DelimiterList {
     pub(crate) fn enter(&mut self, number: RunNumber)
         requires there { number < length self.old.runs }
         requires later { Below number self.old.entries }
-        ensures entries { self.new.entries ≡ entry_of number (run_at self.old.runs number) ∷ self.old.entries }
+        ensures entries { self.new.entries
+            ≡ entry_of number (run_at self.old.runs number) ∷ self.old.entries }
         ensures same { (self.new.runs ≡ self.old.runs) × (self.new.looks ≡ self.old.looks) }
     {
         let last = self.last;
@@ -276,7 +277,8 @@ impl DelimiterList {
         requires there { IsAt (suc number) self.old.entries }
         requires few { self.old.looks < 2 ^ 127 }
         ensures read { result ≡ run_at self.old.runs number }
-        ensures entry { upto (suc number) self.old.entries ≡ entry_of number result ∷ upto number self.old.entries }
+        ensures entry { upto (suc number) self.old.entries
+            ≡ entry_of number result ∷ upto number self.old.entries }
         ensures same { (self.new.runs ≡ self.old.runs) × (self.new.entries ≡ self.old.entries) }
         ensures counted { self.new.looks ≡ self.old.looks + 1 }
     {
@@ -290,7 +292,8 @@ impl DelimiterList {
         requires there { IsAt (suc number) self.old.entries }
         requires last { first_up self.old.entries ≡ suc last }
         requires earlier { number < last }
-        ensures entries { self.new.entries ≡ last_entry self.old.entries ++ upto (suc number) self.old.entries }
+        ensures entries { self.new.entries
+            ≡ last_entry self.old.entries ++ upto (suc number) self.old.entries }
         ensures same { (self.new.runs ≡ self.old.runs) × (self.new.looks ≡ self.old.looks) }
     {
         let slot = &mut self.slots[number.place()];

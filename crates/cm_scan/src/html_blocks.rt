@@ -151,7 +151,8 @@ fn is_name(word: &str, name: &[u8]) -> bool
 
 /// Whether a name is one of these words, in any case.
 fn is_among(words: &[&str], name: &[u8]) -> bool
-    ensures among { result ≡ list_any (λ word. bytes_eq word.now (str_to_ascii_lowercase name.now)) words.now }
+    ensures among { result
+        ≡ list_any (λ word. bytes_eq word.now (str_to_ascii_lowercase name.now)) words.now }
 {
     for word in words {
         if is_name(word, name) {
@@ -338,8 +339,8 @@ pub fn html_start_by(rules: Rules, text: &str, at: usize) -> Option<HtmlKind>
 
 /// Whether the bytes contain the closing tag of an element whose text isn't markup.
 fn holds_raw_text_end(bytes: &[u8]) -> bool
-    ensures held { result
-        ≡ list_any (λ name. holds_word (codes "</" ++ name ++ codes ">") (str_to_ascii_lowercase bytes.now)) raw_text_names }
+    ensures held { result ≡ list_any (λ name.
+        holds_word (codes "</" ++ name ++ codes ">") (str_to_ascii_lowercase bytes.now)) raw_text_names }
 {
     holds_word(b"</pre>", bytes)
         || holds_word(b"</script>", bytes)

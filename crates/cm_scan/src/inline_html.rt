@@ -9,7 +9,8 @@ ghost use Rattle.cm_scan.specs.Words.{after_word, holds_word};
 ghost use Rattle.cm_scan.specs.spans.RawHtml.{beyond_word, short_end, after_comment};
 ghost use Rattle.cm_scan.specs.spans.RawHtml.{after_declaration, html_tag, raw_html};
 ghost use Rattle.cm_scan.specs.Scanned.{reading_of, whole_of};
-ghost use Rattle.cm_scan.specs.spans.Reach.{html_reach, needed, mark_reach, needed_after_mark, dash_reach, declared};
+ghost use Rattle.cm_scan.specs.spans.Reach.{html_reach, needed, mark_reach, needed_after_mark};
+ghost use Rattle.cm_scan.specs.spans.Reach.{dash_reach, declared};
 
 use crate::plain_tags;
 use crate::tags::{closing_tag, is_letter, open_tag};

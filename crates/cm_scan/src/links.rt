@@ -450,7 +450,8 @@ pub fn is_next(text: &[u8], at: usize, b: u8) -> bool
 /// Whether the byte there escapes the next one (2.4 Backslash escapes), unless it is escaped itself.
 fn escapes_next(text: &[u8], at: usize, escaped: bool) -> bool
     requires { at < length text.now }
-    ensures escapes { result ≡ (not escaped && escapes_next (slice_index text.now at) (drop (suc at) text.now)) }
+    ensures escapes { result
+        ≡ (not escaped && escapes_next (slice_index text.now at) (drop (suc at) text.now)) }
 {
     if escaped || text[at] != b'\\' || at + 1 == text.len() {
         return false;

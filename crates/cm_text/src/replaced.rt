@@ -34,7 +34,8 @@ pub trait Replaced: ByteKind {
 pub fn push_replaced<K: Replaced>(out: &mut String, text: &str) -> Result<(), AllocError>
     requires ascii { (b : ℕ) → K.passes b ≡ true → b < 128 }
     requires others { (b : ℕ) → K.passes b ≡ false → K.written b ≡ b ∷ [] }
-    ensures replaced { OnOk result (string_bytes out.new ≡ string_bytes out.old ++ flat_map K.written text.now) }
+    ensures replaced { OnOk result
+        (string_bytes out.new ≡ string_bytes out.old ++ flat_map K.written text.now) }
 {
     let mut rest = text;
     while let Some(at) = K::find(rest.as_bytes()) {

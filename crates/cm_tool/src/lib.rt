@@ -9,8 +9,8 @@
 //! - [`Fault`] has each fault, with the line that the program prints.
 //!
 //! The program consists of [`task`], [`run`], and what reports more: [`tell`], [`tell_unopened`],
-//! [`line_of_fault`], [`tell_place`] and [`tell_no_example`]. `cm_command` reads the command line, so no other
-//! crate is checked together with `clap`.
+//! [`line_of_fault`], [`tell_place`] and [`tell_no_example`]. `cm_command` reads the command line, so no
+//! other crate is checked together with `clap`.
 //!
 //! ```
 //! use cm_text::Limits;

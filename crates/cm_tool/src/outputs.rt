@@ -1,5 +1,5 @@
-//! What a text becomes: the calls that read a source to its end and return its document, or write one output of it
-//! to a sink; and those for a text in memory, or in pieces.
+//! What a text becomes: the calls that read a source to its end and return its document, or write one output
+//! of it to a sink; and those for a text in memory, or in pieces.
 //!
 //! Nothing is written before the output is whole: the last leaf may nest too deep. Each output is written
 //! with `cm_text::write_all`, and one definition, `Writes`, says what such a call returns.
@@ -115,11 +115,13 @@ pub fn rewrite<R: Source, W: Sink>(
 ) -> Result<usize, Fault>
     requires reads { (R.seen source.old).failed < 2 ^ 64 - 1 }
     requires writes { (W.seen sink.old).failed < 2 ^ 64 - 1 }
-    ensures exact { (bytes : List ℕ) × Consumes (R.seen source.old).remaining (R.seen source.new).remaining bytes
+    ensures exact { (bytes : List ℕ)
+        × Consumes (R.seen source.old).remaining (R.seen source.new).remaining bytes
         × Rewrites result limits bytes (R.seen source.old) (R.seen source.new)
         (W.seen sink.old) (W.seen sink.new) }
     // Which trees are spelled, and how, is in `exact` alone.
-    ensures back { (bytes : List ℕ) × Consumes (R.seen source.old).remaining (R.seen source.new).remaining bytes
+    ensures back { (bytes : List ℕ)
+        × Consumes (R.seen source.old).remaining (R.seen source.new).remaining bytes
         × WritesBack result limits bytes (R.seen source.old) (R.seen source.new)
         (W.seen sink.old) (W.seen sink.new) }
 {

@@ -5,9 +5,9 @@
 //! and its item's blocks. It would free them much later, which is when an allocator is slowest. The content
 //! of a quote or item is moved to the end when that closes, so each block is moved twice at most.
 //!
-//! A place has 32 bits, which halves the size of a block. A document that needs more is `TooLarge`, which takes
-//! a [`FarPlace`]; none within the limits does, because a text has at most 2^30 bytes, each of which becomes at
-//! most three.
+//! A place has 32 bits, which halves the size of a block. A document that needs more is `TooLarge`, which
+//! takes a [`FarPlace`]; none within the limits does, because a text has at most 2^30 bytes, each of which
+//! becomes at most three.
 ghost use Rattle.std.specs.Prelude.{◌≡◌, ◌≢◌, ◌<◌, ◌≤◌, ◌+◌, ◌^◌, [], ◌++◌, length, get_or, nat_le};
 ghost use Rattle.std.specs.Prelude.{IfOk, IfErr, OnOk};
 ghost use Rattle.std.specs.List.{slice_range};

@@ -5,11 +5,11 @@
 //! chunk starts without memory, so that a short text takes only what it needs.
 //!
 //! The price is one more copy. A line's characters are copied once into the open leaf, when the line is read;
-//! when the leaf closes, its text, or what a definition has of it, is appended to the texts of its chunk, once.
-//! A heading that is one line (4.2 ATX headings) has no open leaf, so it is only copied there. Blank lines of
-//! indented code wait in a text of their own, and are copied once more if more code follows. Chunks of one
-//! growing text would need places made of a chunk and a distance, and a proof that no block is in a chunk that
-//! was freed.
+//! when the leaf closes, its text, or what a definition has of it, is appended to the texts of its chunk,
+//! once. A heading that is one line (4.2 ATX headings) has no open leaf, so it is only copied there. Blank
+//! lines of indented code wait in a text of their own, and are copied once more if more code follows. Chunks
+//! of one growing text would need places made of a chunk and a distance, and a proof that no block is in a
+//! chunk that was freed.
 ghost use Rattle.std.specs.Prelude.{◌≡◌, [], ◌++◌, OnOk, OnErr};
 ghost use Rattle.cm_tree.specs.RawBlocks.{blocks_in, ArePlaced};
 ghost use Rattle.cm_tree.specs.RawTrees.{all_blocks};

@@ -74,8 +74,8 @@ fn is_done(alloc: Global, case: &Case, ran: &Written) -> Result<(), Trouble> {
     Ok(())
 }
 
-/// Checks that plain source or JSON is made of a text in memory as the case expects, or that it is refused with
-/// the expected reason.
+/// Checks that plain source or JSON is made of a text in memory as the case expects, or that it is refused
+/// with the expected reason.
 fn is_in_memory(alloc: Global, case: &Case, task: &Task, input: &[u8]) -> Result<(), Trouble> {
     let is_made = matches!(task.job, Job::Rewrite | Job::TreeJson);
     if !is_made || case.has("room") || task.file.is_some() {

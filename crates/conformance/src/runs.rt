@@ -160,7 +160,8 @@ fn listed(alloc: Global, text: &[u8], limits: Limits) -> Result<String, Fault> {
     Ok(listed)
 }
 
-/// The HTML of a text that lies in memory, the listing of its tree, a line with its JSON, or its plain source.
+/// The HTML of a text that lies in memory, the listing of its tree, a line with its JSON, or its plain
+/// source.
 pub(crate) fn in_memory(
     alloc: Global,
     job: Job,

@@ -36,7 +36,8 @@ impl<'a> LineInItems<'a> {
         (inner, tests)
     }
 
-    /// The rest of the line, for one reading, which it counts. There is more of the next item than its marker.
+    /// The rest of the line, for one reading, which it counts. There is more of the next item than its
+    /// marker.
     #[inline(always)]
     pub(crate) fn read(&mut self) -> InItem<'a>
         requires few { self.old.tests < 2 ^ 64 - 1 }

@@ -1,8 +1,8 @@
 //! Readings of a line, and the scanners that use them up.
 //!
-//! Only a call that counts hands out a reading, and it can't be copied. Each scanner takes it by value. One that
-//! finds nothing returns a reading of another type, so that it can't run twice. What takes a reference looks at
-//! no more than the length, the mark and the first byte.
+//! Only a call that counts hands out a reading, and it can't be copied. Each scanner takes it by value. One
+//! that finds nothing returns a reading of another type, so that it can't run twice. What takes a reference
+//! looks at no more than the length, the mark and the first byte.
 ghost use Rattle.std.specs.Prelude.{◌≡◌, ◌==◌, ◌&&◌, ◌++◌, ◌∷◌, ℕ, List, length, suc, true, false};
 ghost use Rattle.std.specs.Prelude.{IfOk, IfErr, IfSome, IfNone, MatchOption, OnOk};
 ghost use Rattle.cm_text.specs.Rules as all;
@@ -278,7 +278,8 @@ pub(crate) fn start_of<'a>(rules: Rules, line: Unquoted<'a>) -> Starts<'a>
 pub(crate) fn item_content<'a>(line: Searched<'a>, marker: &ItemMarker) -> (usize, Inside<'a>, bool)
     requires { (by : all.Rules) × (start_of by (seen_view line.view) ≡ ItemStart (seen_marker marker.now)) }
     ensures column { result.0 ≡ content_column (seen_marker marker.now) (seen_view line.entry.view) }
-    ensures first { seen_view result.1.view ≡ first_content (seen_marker marker.now) (seen_view line.entry.view) }
+    ensures first { seen_view result.1.view
+        ≡ first_content (seen_marker marker.now) (seen_view line.entry.view) }
     ensures bare { result.2 ≡ is_blank (seen_view result.1.view) }
 {
     let (column, view) = continuations::item_content(&line.view, marker);
@@ -328,8 +329,8 @@ pub(crate) fn add_text(source: &mut LeafText, line: Reading<'_>) -> Result<(), A
     copies::add_text(source, &line.view)
 }
 
-/// Appends a line to indented code if it belongs to the block. Returns whether it does. A blank line waits for
-/// a further line of code (4.4 Indented code blocks).
+/// Appends a line to indented code if it belongs to the block. Returns whether it does. A blank line waits
+/// for a further line of code (4.4 Indented code blocks).
 #[inline(always)]
 pub(crate) fn add_code(
     text: &mut LeafText,

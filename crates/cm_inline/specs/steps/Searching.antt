@@ -43,8 +43,7 @@ AreSound bottoms es = (c : Run) → IsMarked c → c.closes ≡ true → NoneBen
 abbrev pub characters : List Entry → ℕ
 characters = sum_by (λ e. e.run.left)
 
--- The looks that were made and those that may still be made for the first kinds of closers, of which there is the given number: one for each character left
--- besides.
+-- The looks made, those that may still be made for the given number of first kinds of closers, and one for each character left
 abbrev pub spent : (kinds : ℕ) → Listed → List ℕ → ℕ
 spent kinds l bottoms = l.looks + reserve (take kinds bottoms) l.entries + characters l.entries
 
