@@ -6,12 +6,12 @@ pub mod Frames
 pub mod Lazy
 pub mod Depths
 pub mod Tests
+pub mod Sizes
 pub mod Laws
 pub mod WorkedExamples
 pub mod OwnedCode
 pub mod OwnerRuns
 pub mod LeafViews
-pub mod Faults
 pub mod Parser
 pub mod Prelude
 pub mod steps

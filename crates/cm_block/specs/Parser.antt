@@ -8,7 +8,7 @@ use Rattle.cm_scan.specs.laws.PartLaws.{AreLines}
 use Rattle.cm_block.specs.declared.parser.BlockParser as code
 use Rattle.cm_block.specs.declared.parser.Outline.{Outline}
 use Rattle.cm_block.specs.declared.fault.BlockFault.{BlockFault}
-use Rattle.cm_block.specs.declared.fault.BlockFault.TheVariants.{BlocksTooDeep, NoMemory, TooLarge}
+use Rattle.cm_block.specs.declared.fault.BlockFault.TheVariants.{BlocksTooDeep, NoMemory}
 use Rattle.cm_block.specs.OpenLeaf.{is_open_text, is_no_leaf}
 use Rattle.cm_block.specs.Stack.{Stack, empty_stack, push_lines}
 use Rattle.cm_block.specs.Frames.{stack_with}
@@ -38,11 +38,10 @@ pub record HasTaken (parser : code.BlockParser) (lines : List LineView) : Type 0
   pub few : length parser.stack.frames ≤ parser.limits.blocks
   pub tests : AllTested (count_of (stack_of parser)) ((parser.limits.blocks + 5) * length lines) 0 parser.tests
 
--- The lines have the reported fault; memory may be refused, and a place may need more than 32 bits.
+-- The lines have the reported fault, or memory was refused.
 abbrev pub TellsDepth : BlockFault → LimitsView → List LineView → Type 0
 TellsDepth (BlocksTooDeep line) limits lines = first_too_deep limits.rules limits.blocks lines ≡ Some line
 TellsDepth NoMemory limits lines = ⊤
-TellsDepth (TooLarge place) limits lines = ⊤
 
 -- the outline has the blocks, the owners and the link reference definitions of these lines
 pub record OutlineOf (outline : Outline) (rules : Rules) (lines : List LineView) : Type 0 where

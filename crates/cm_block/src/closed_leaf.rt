@@ -16,8 +16,7 @@ use crate::owners::Owners;
 use crate::stack::Stack;
 use crate::text_runs::line_feeds;
 use cm_scan::{LinkDefinition, definition, is_next, trim_end};
-use cm_text::unescape_or_lend;
-use cm_tree::RawFault;
+use cm_text::{NoMemory, unescape_or_lend};
 use std::alloc::Global;
 
 /// Adds a definition. Its destination and title are resolved, and its label is its source (4.7).
@@ -28,7 +27,7 @@ fn put_definition(
     stack: &mut Stack,
     owners: &mut Owners,
     leaves: &mut usize,
-) -> Result<(), RawFault>
+) -> Result<(), NoMemory>
     requires counted { leaves.old ≡ owners.old.leaves }
     ensures level { OnOk result (stack.new.level
         ≡ block_closes stack.old.level
@@ -74,7 +73,7 @@ fn put_definitions<'a>(
     stack: &mut Stack,
     owners: &mut Owners,
     leaves: &mut usize,
-) -> Result<(&'a str, usize), RawFault>
+) -> Result<(&'a str, usize), NoMemory>
     requires feeds { feeds ≡ line_feeds text.now }
     requires few { feeds < 2 ^ 63 }
     requires counted { leaves.old ≡ owners.old.leaves }
@@ -109,7 +108,7 @@ fn put_content(
     stack: &mut Stack,
     owners: &mut Owners,
     leaves: &mut usize,
-) -> Result<(), RawFault>
+) -> Result<(), NoMemory>
     requires feeds { feeds ≡ line_feeds source.now }
     requires few { feeds < 2 ^ 63 }
     requires counted { leaves.old ≡ owners.old.leaves }
@@ -153,7 +152,7 @@ pub(crate) fn put_run(
     stack: &mut Stack,
     owners: &mut Owners,
     leaves: &mut usize,
-) -> Result<(), RawFault>
+) -> Result<(), NoMemory>
     requires counted { leaves.old ≡ owners.old.leaves }
     ensures level { OnOk result (stack.new.level
         ≡ close_leaves stack.old.level (run_leaves (underline_level ending) source.now)) }
@@ -179,7 +178,7 @@ fn put_code(
     stack: &mut Stack,
     owners: &mut Owners,
     leaves: &mut usize,
-) -> Result<(), RawFault>
+) -> Result<(), NoMemory>
     requires counted { leaves.old ≡ owners.old.leaves }
     ensures level { OnOk result (stack.new.level
         ≡ block_closes stack.old.level (leaf_block (code info.now text.now))) }
@@ -211,7 +210,7 @@ pub(crate) fn put_fenced(
     stack: &mut Stack,
     owners: &mut Owners,
     leaves: &mut usize,
-) -> Result<(), RawFault>
+) -> Result<(), NoMemory>
     requires counted { leaves.old ≡ owners.old.leaves }
     ensures level { OnOk result (stack.new.level
         ≡ block_closes stack.old.level (leaf_block (code info.now text.now))) }
@@ -230,7 +229,7 @@ pub(crate) fn put_indented(
     stack: &mut Stack,
     owners: &mut Owners,
     leaves: &mut usize,
-) -> Result<(), RawFault>
+) -> Result<(), NoMemory>
     requires counted { leaves.old ≡ owners.old.leaves }
     ensures level { OnOk result (stack.new.level
         ≡ block_closes stack.old.level (leaf_block (code [] (ended text.old)))) }
@@ -250,7 +249,7 @@ pub(crate) fn put_html(
     stack: &mut Stack,
     owners: &mut Owners,
     leaves: &mut usize,
-) -> Result<(), RawFault>
+) -> Result<(), NoMemory>
     requires counted { leaves.old ≡ owners.old.leaves }
     ensures level { OnOk result (stack.new.level
         ≡ block_closes stack.old.level (leaf_block (html (ended text.old)))) }

@@ -9,8 +9,7 @@ use crate::counted_line::{CountedLine, LeafStart};
 use crate::line_tests::Begins;
 use crate::stack::Stack;
 use cm_text::Rules;
-use cm_tree::RawFault;
-use std::alloc::Global;
+use std::alloc::{AllocError, Global};
 
 /// What the innermost of the quotes and items that a line starts contains.
 #[derive(Clone, Copy)]
@@ -33,7 +32,7 @@ impl Stack {
         limit: usize,
         depth: usize,
         line: &mut CountedLine<'a>,
-    ) -> Result<Innermost<'a>, RawFault>
+    ) -> Result<Innermost<'a>, AllocError>
         requires plain { self.old.bare ≡ false }
         requires within { depth ≤ length self.old.frames }
         ensures inside { IfOk result (λ innermost. Inside rules limit (closed_to depth self.old)

@@ -2,7 +2,6 @@
 ghost use Rattle.std.specs.Prelude.{◌≡◌};
 
 use cm_text::NoMemory;
-use cm_tree::{FarPlace, RawFault};
 use std::alloc::AllocError;
 use thiserror::Error;
 
@@ -15,10 +14,6 @@ pub enum BlockFault {
     /// A request for memory was refused.
     #[error("out of memory")]
     NoMemory,
-    /// The texts of one chunk of the document would have 2^32 bytes or more, or it would have as many blocks
-    /// or items. None of a document of at most 2^30 bytes has: a byte becomes at most three bytes of a text.
-    #[error("document too large")]
-    TooLarge(FarPlace),
 }
 
 impl From<AllocError> for BlockFault {
@@ -40,19 +35,5 @@ impl From<NoMemory> for BlockFault {
 
     fn from(_: NoMemory) -> BlockFault {
         BlockFault::NoMemory
-    }
-}
-
-impl From<RawFault> for BlockFault {
-    ghost use Rattle.std.specs.Prelude.{◌≡◌};
-    ghost use Rattle.cm_block.specs.Faults.{block_fault};
-
-    ghost from_gives = { λ fault e. e ≡ block_fault fault };
-
-    fn from(fault: RawFault) -> BlockFault {
-        match fault {
-            RawFault::NoMemory => BlockFault::NoMemory,
-            RawFault::TooLarge(place) => BlockFault::TooLarge(place),
-        }
     }
 }

@@ -3,6 +3,7 @@ ghost use Rattle.cm_block.specs.Laws.{OnePass, FromTheLeft, StackBlocks};
 ghost use Rattle.cm_block.specs.Laws.{StackOwners, StackTable, OneOwnerEach};
 ghost use Rattle.cm_block.specs.Depths.{DepthsOfLines, TooDeepAtOnce, TooDeepStays, TooDeepNext};
 ghost use Rattle.cm_block.specs.Lazy.{LazyLine, TextGoesOn};
+ghost use Rattle.cm_block.specs.Sizes.{TextsAreShort, SizeExamples};
 ghost use Rattle.cm_block.specs.WorkedExamples.{StackExamples};
 
 /// One pass over the lines, which keeps what is open and no line, gives the parts of the lines.
@@ -54,7 +55,15 @@ pub fn depths()
     ensures next { TooDeepNext }
 {}
 
+/// The texts of a document's blocks have at most three bytes for each of its own, and one more: U+0000 becomes
+/// three bytes, a tab that is cut up to three spaces, and each line of code ends with a line feed.
+#[tactic(auto, using(crate::proofs::lemmas::DocumentSizes::texts_are_short))]
+pub fn texts_are_short()
+    ensures { TextsAreShort }
+{}
+
 /// Worked examples over the definitions, by computation.
 pub fn worked_examples()
-    ensures { StackExamples }
+    ensures stack { StackExamples }
+    ensures sizes { SizeExamples }
 {}

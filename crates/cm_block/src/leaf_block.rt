@@ -3,7 +3,8 @@ ghost use Rattle.std.specs.Prelude.{◌≡◌, IfOk};
 ghost use Rattle.cm_block.specs.Prelude.{Grows, block_in, IsPlaced};
 ghost use Rattle.cm_block.specs.steps.LeafBlocks.{block_of};
 
-use cm_tree::{RawBlock, RawBlocks, RawFault};
+use cm_tree::{RawBlock, RawBlocks};
+use std::alloc::AllocError;
 
 /// A leaf block, with its texts lent (chapter 4).
 #[derive(Clone, Copy)]
@@ -35,7 +36,7 @@ pub(crate) enum LeafBlock<'a> {
 impl<'a> LeafBlock<'a> {
     /// Stores the texts of the block. Returns the block.
     #[inline(always)]
-    pub(crate) fn place(&self, raw: &mut RawBlocks) -> Result<RawBlock, RawFault>
+    pub(crate) fn place(&self, raw: &mut RawBlocks) -> Result<RawBlock, AllocError>
         ensures block { IfOk result (λ block. block_in raw.new block ≡ block_of self.now) }
         ensures placed { IfOk result (λ block. IsPlaced raw.new block) }
         ensures grows { Grows raw.old raw.new }

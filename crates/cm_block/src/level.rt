@@ -10,8 +10,8 @@ ghost use Rattle.cm_block.specs.steps.LevelSteps.{item_with, without_list, has_l
 
 use crate::room::Room;
 use cm_scan::is_same_kind;
-use cm_tree::{ListKind, RawBlock, RawBlocks, RawFault, RawItem};
-use std::alloc::Global;
+use cm_tree::{ListKind, RawBlock, RawBlocks, RawItem};
+use std::alloc::{AllocError, Global};
 
 /// A list with its closed items and its mark of looseness. Another item of it may be open.
 #[derive(Debug, Drop)]
@@ -58,7 +58,7 @@ impl Level {
 
     /// Appends the list to the blocks, if there is one. Mostly there is none.
     #[inline(always)]
-    fn close_list(&mut self, raw: &mut RawBlocks, room: &mut Room) -> Result<(), RawFault>
+    fn close_list(&mut self, raw: &mut RawBlocks, room: &mut Room) -> Result<(), AllocError>
         requires { IsLevelPlaced raw.old self.old }
         ensures level { OnOk result (level_in raw.new self.new ≡ without_list (level_in raw.old self.old)) }
         ensures placed { IsLevelPlaced raw.new self.new }
@@ -72,7 +72,7 @@ impl Level {
 
     /// Appends the list to the blocks, if there is one.
     #[inline(never)]
-    fn put_list(&mut self, raw: &mut RawBlocks, room: &mut Room) -> Result<(), RawFault>
+    fn put_list(&mut self, raw: &mut RawBlocks, room: &mut Room) -> Result<(), AllocError>
         requires { IsLevelPlaced raw.old self.old }
         ensures level { OnOk result (level_in raw.new self.new ≡ without_list (level_in raw.old self.old)) }
         ensures placed { IsLevelPlaced raw.new self.new }
@@ -91,7 +91,7 @@ impl Level {
         &mut self,
         raw: &mut RawBlocks,
         room: &mut Room,
-    ) -> Result<(), RawFault>
+    ) -> Result<(), AllocError>
         requires { IsLevelPlaced raw.old self.old }
         ensures level { OnOk result (level_in raw.new self.new ≡ block_opens (level_in raw.old self.old)) }
         ensures placed { IsLevelPlaced raw.new self.new }
@@ -104,7 +104,7 @@ impl Level {
     }
 
     /// Appends a block that was opened.
-    pub(crate) fn close_block(&mut self, block: RawBlock) -> Result<(), RawFault>
+    pub(crate) fn close_block(&mut self, block: RawBlock) -> Result<(), AllocError>
         ensures level { OnOk result ((raw : Raw) → level_in raw self.new
             ≡ block_closes (level_in raw self.old) (block_in raw block)) }
         ensures placed { (raw : Raw) → IsLevelPlaced raw self.old → IsPlaced raw block →
@@ -145,7 +145,7 @@ impl Level {
         raw: &mut RawBlocks,
         room: &mut Room,
         kind: ListKind,
-    ) -> Result<(), RawFault>
+    ) -> Result<(), AllocError>
         requires { IsLevelPlaced raw.old self.old }
         ensures level { OnOk result (level_in raw.new self.new
             ≡ list_opens (level_in raw.old self.old) kind) }
@@ -169,7 +169,7 @@ impl Level {
         raw: &mut RawBlocks,
         room: &mut Room,
         kind: ListKind,
-    ) -> Result<(), RawFault>
+    ) -> Result<(), AllocError>
         requires { IsLevelPlaced raw.old self.old }
         ensures level { OnOk result (level_in raw.new self.new
             ≡ item_opens (level_in raw.old self.old) kind) }
@@ -190,7 +190,7 @@ impl Level {
         item: RawItem,
         ends_blank: bool,
         separated: bool,
-    ) -> Result<(), RawFault>
+    ) -> Result<(), AllocError>
         ensures level { OnOk result ((raw : Raw) → level_in raw self.new
             ≡ item_closes (level_in raw self.old) (item_with (item_in raw item) ends_blank separated)) }
         ensures placed { (raw : Raw) → IsLevelPlaced raw self.old → IsItem raw item →
@@ -213,7 +213,7 @@ impl Level {
         raw: &mut RawBlocks,
         room: &mut Room,
         outer: &mut Level,
-    ) -> Result<(), RawFault>
+    ) -> Result<(), AllocError>
         requires inner { IsLevelPlaced raw.old self.old }
         requires outer { IsLevelPlaced raw.old outer.old }
         ensures outer { OnOk result (level_in raw.new outer.new
@@ -239,7 +239,7 @@ impl Level {
         mut self,
         raw: &mut RawBlocks,
         room: &mut Room,
-    ) -> Result<Vec<RawBlock>, RawFault>
+    ) -> Result<Vec<RawBlock>, AllocError>
         requires { IsLevelPlaced raw.old self }
         ensures blocks { IfOk result (λ blocks. blocks_in raw.new blocks.items
             ≡ closed_blocks (level_in raw.old self)) }

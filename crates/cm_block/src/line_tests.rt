@@ -25,7 +25,7 @@ use crate::owners::Owners;
 use crate::stack::Stack;
 use cm_scan::{FenceKind, HtmlKind};
 use cm_text::{NoMemory, Rules};
-use cm_tree::{ListKind, RawFault};
+use cm_tree::ListKind;
 use std::alloc::{AllocError, Global};
 
 /// What a line starts in the innermost container, where no leaf is open.
@@ -298,7 +298,7 @@ impl<'a> CountedLine<'a> {
         stack: &mut Stack,
         owners: &mut Owners,
         leaves: &mut usize,
-    ) -> Result<bool, RawFault>
+    ) -> Result<bool, NoMemory>
         requires counted { leaves.old ≡ owners.old.leaves }
         ensures put { IfOk result (λ put. put ≡ is_whole (seen start.now.found)) }
         ensures level { OnOk result (stack.new.level

@@ -15,8 +15,7 @@ use crate::owners::Owners;
 use crate::stack::Stack;
 use crate::text_runs::next_line;
 use cm_scan::HtmlKind;
-use cm_text::Rules;
-use cm_tree::RawFault;
+use cm_text::{NoMemory, Rules};
 use std::alloc::{AllocError, Global};
 
 /// The leaf block that is open. Its lines are counted by the line feeds of its texts. If no leaf is open, it
@@ -188,7 +187,7 @@ impl OpenLeaf {
         stack: &mut Stack,
         owners: &mut Owners,
         leaves: &mut usize,
-    ) -> Result<(), RawFault>
+    ) -> Result<(), NoMemory>
         requires counted { leaves.old ≡ owners.old.leaves }
         ensures level { OnOk result (stack.new.level
             ≡ close_leaves stack.old.level (leaves_with ending self.old)) }
@@ -219,7 +218,7 @@ impl OpenLeaf {
         stack: &mut Stack,
         owners: &mut Owners,
         leaves: &mut usize,
-    ) -> Result<(), RawFault>
+    ) -> Result<(), NoMemory>
         requires counted { leaves.old ≡ owners.old.leaves }
         ensures level { OnOk result (stack.new.level
             ≡ close_leaves stack.old.level (leaves_with ending self.old)) }

@@ -17,7 +17,7 @@ use crate::owner_runs::LineOwners;
 use crate::owners::Owners;
 use crate::stack::Stack;
 use cm_text::{Limits, Line, NoMemory, TextLines, View};
-use cm_tree::{Definitions, RawFault, RawTree};
+use cm_tree::{Definitions, RawTree};
 use std::alloc::Global;
 
 /// The block structure of a document: its tree, in which the source of a paragraph or heading is one text,
@@ -54,11 +54,10 @@ pub struct BlockParser {
 impl BlockParser {
     ghost use Rattle.std.specs.Prelude.{◌≡◌, ◌≢◌, ◌+◌, ◌-◌, ◌*◌, ◌<◌, ◌≤◌, ◌∷◌, ◌++◌, []};
     ghost use Rattle.std.specs.Prelude.{ℕ, List, None, true, false, length, suc, Some, Err};
-    ghost use Rattle.std.specs.Prelude.{IfOk, IfErr, OnOk, OnErr};
+    ghost use Rattle.std.specs.Prelude.{IfOk, IfErr, OnOk};
     ghost use Rattle.cm_block.specs.Prelude.{answer_after, LineView, plain_lines_of, seen_line, seen_view};
     ghost use Rattle.cm_block.specs.declared.fault.BlockFault as faults;
     ghost use Rattle.cm_block.specs.declared.fault.BlockFault.TheVariants as block_faults;
-    ghost use Rattle.cm_tree.specs.declared.raw_blocks.RawFault.TheVariants as raw_faults;
     ghost use Rattle.cm_block.specs.OpenLeaf.{no_leaf, open_text, is_open_text};
     ghost use Rattle.cm_block.specs.Machine.{in_leaf};
     ghost use Rattle.cm_block.specs.Level.{closed_blocks};
@@ -68,7 +67,6 @@ impl BlockParser {
     ghost use Rattle.cm_block.specs.steps.StartViews.{seen};
     ghost use Rattle.cm_block.specs.steps.FirstLines.{begins_container};
     ghost use Rattle.cm_block.specs.steps.FrameStarts.{begun_by, with_blank, LeafBegins, DeepIn};
-    ghost use Rattle.cm_block.specs.Faults.{IsTooMuch};
     ghost use Rattle.cm_block.specs.Parser.{stack_of, has_nothing_open, takes_text};
     ghost use Rattle.cm_block.specs.Parser.{HasTaken, TellsDepth, OutlineOf, TestsOf};
     ghost use Rattle.cm_block.specs.Tests.{count_of, AllTested};
@@ -103,7 +101,7 @@ impl BlockParser {
 
     /// Closes the open leaf.
     #[inline(always)]
-    fn close_leaf(&mut self) -> Result<(), RawFault>
+    fn close_leaf(&mut self) -> Result<(), NoMemory>
         ensures level { OnOk result (self.new.stack.level
             ≡ close_open self.old.stack.level (in_leaf (leaf_of self.old.leaf))) }
         ensures owners { OnOk result (self.new.owners
@@ -158,7 +156,7 @@ impl BlockParser {
         &mut self,
         start: &LeafStart<'a>,
         line: &mut CountedLine<'a>,
-    ) -> Result<(), RawFault>
+    ) -> Result<(), NoMemory>
         requires plain { self.old.stack.bare ≡ false }
         requires leaf { leaf_of self.old.leaf ≡ no_leaf }
         requires start { begins_container (seen start.now.found) ≡ false }
@@ -227,7 +225,7 @@ impl BlockParser {
 
     /// Adds a line that stays in `depth` of the open containers to the open leaf, if it belongs to it.
     /// Returns whether it does.
-    fn take_to_leaf(&mut self, depth: usize, line: &mut CountedLine<'_>) -> Result<bool, RawFault>
+    fn take_to_leaf(&mut self, depth: usize, line: &mut CountedLine<'_>) -> Result<bool, NoMemory>
         requires plain { self.old.stack.bare ≡ false }
         ensures taken { IfOk result (λ taken.
             TakenToLeaf taken depth self.old (seen_view line.old.rest) self.new) }
@@ -309,8 +307,7 @@ impl BlockParser {
     /// # Errors
     ///
     /// `BlocksTooDeep` on the first line inside more quotes and items than the limit, `NoMemory` if a request
-    /// for memory was refused, `TooLarge` if a place would need more than 32 bits; the same fault from then
-    /// on.
+    /// for memory was refused; the same fault from then on.
     pub fn line(&mut self, line: &Line) -> Result<(), BlockFault>
         ensures stands { OnOk result ((lines : List LineView) → HasTaken self.old lines
             → HasTaken self.new (lines ++ seen_line line.now ∷ [])) }
@@ -328,8 +325,7 @@ impl BlockParser {
     /// # Errors
     ///
     /// `BlocksTooDeep` on the first line inside more quotes and items than the limit, `NoMemory` if a request
-    /// for memory was refused, `TooLarge` if a place would need more than 32 bits; the same fault from then
-    /// on.
+    /// for memory was refused; the same fault from then on.
     #[inline(always)]
     pub fn line_view(&mut self, line: &View<'_>) -> Result<(), BlockFault>
         ensures stands { OnOk result ((lines : List LineView) → HasTaken self.old lines
@@ -373,10 +369,9 @@ impl BlockParser {
 
     /// Opens a run of text, unless a leaf is open.
     #[inline(always)]
-    fn open_run(&mut self) -> Result<(), RawFault>
+    fn open_run(&mut self) -> Result<(), NoMemory>
         ensures run { OnOk result ((self.new.stack.level, leaf_of self.new.leaf)
             ≡ with_run self.old.stack.level (leaf_of self.old.leaf)) }
-        ensures refused { OnErr result (leaf_of self.old.leaf ≡ no_leaf) }
         ensures bare { OnOk result (self.new.stack.bare ≡ false) }
         ensures frames { self.new.stack.frames ≡ self.old.stack.frames }
         ensures owners { self.new.owners ≡ self.old.owners }
@@ -394,7 +389,7 @@ impl BlockParser {
 
     /// Adds lines of text to the open run, or to one that they start.
     #[inline(always)]
-    fn add_text(&mut self, lines: &mut CountedLines<'_>) -> Result<(), RawFault>
+    fn add_text(&mut self, lines: &mut CountedLines<'_>) -> Result<(), NoMemory>
         requires run { is_open_text (with_run self.old.stack.level (leaf_of self.old.leaf)).1 ≡ true }
         requires counted { lines.old.tests ≡ lines.old.lines.count }
         ensures level { OnOk result (self.new.stack.level
@@ -412,8 +407,6 @@ impl BlockParser {
         ensures tests { OnOk result (lines.new.tests ≡ lines.old.tests + lines.old.lines.count) }
         ensures least { lines.old.tests ≤ lines.new.tests }
         ensures most { lines.new.tests ≤ lines.old.tests + lines.old.lines.count }
-        ensures refused { IfErr result (λ fault. leaf_of self.old.leaf ≢ no_leaf →
-            fault ≡ raw_faults.NoMemory) }
     {
         self.open_run()?;
         self.leaf.add_lines(lines)?;
@@ -424,16 +417,13 @@ impl BlockParser {
     ///
     /// # Errors
     ///
-    /// `NoMemory` if a request for memory was refused, `TooLarge` if no leaf was open and a place would need
-    /// more than 32 bits; the same fault from then on.
+    /// `NoMemory` if a request for memory was refused; the same fault from then on.
     #[inline(always)]
     pub fn text_lines(&mut self, more: &TextLines<'_>) -> Result<(), BlockFault>
         requires { takes_text self.old more.now.spaces ≡ true }
         ensures stands { OnOk result ((lines : List LineView) → HasTaken self.old lines →
             HasTaken self.new (lines ++ plain_lines_of more.now.text.now)) }
-        ensures memory { IfErr result IsTooMuch }
-        ensures run { IfErr result (λ fault. leaf_of self.old.leaf ≢ no_leaf →
-            fault ≡ block_faults.NoMemory) }
+        ensures memory { IfErr result (λ fault. fault ≡ block_faults.NoMemory) }
         ensures answer { result ≡ answer_after self.new.fault }
         ensures limits { self.new.limits ≡ self.old.limits }
         ensures tests { AllTested more.now.count (2 * more.now.count) self.old.tests self.new.tests }
@@ -462,7 +452,7 @@ impl BlockParser {
         ensures tests { self.new.tests ≡ self.old.tests }
         ensures limits { self.new.limits ≡ self.old.limits }
         ensures failed { (fault : faults.BlockFault) → self.old.fault ≡ Some fault → result ≡ Err fault }
-        ensures memory { self.old.fault ≡ None → IfErr result IsTooMuch }
+        ensures memory { self.old.fault ≡ None → IfErr result (λ fault. fault ≡ block_faults.NoMemory) }
     {
         if let Some(met) = self.fault {
             return Err(met);
@@ -472,7 +462,7 @@ impl BlockParser {
     }
 
     /// The outline, if all is closed.
-    fn into_outline(self) -> Result<Outline, RawFault>
+    fn into_outline(self) -> Result<Outline, NoMemory>
         requires { self.stack.frames ≡ [] }
         ensures blocks { IfOk result (λ outline. outline.blocks ≡ closed_blocks self.stack.level) }
         ensures owners { IfOk result (λ outline. outline.owners ≡ self.owners.owners) }
@@ -503,15 +493,14 @@ impl BlockParser {
     ///
     /// # Errors
     ///
-    /// The fault that a line met; `NoMemory` if a request for memory was refused, `TooLarge` if a place would
-    /// need more than 32 bits.
+    /// The fault that a line met, or `NoMemory` if a request for memory was refused.
     pub fn finish(mut self) -> Result<Outline, BlockFault>
         ensures outline { IfOk result (λ outline. (lines : List LineView) → HasTaken self lines
             → OutlineOf outline self.limits.rules lines) }
         ensures tests { IfOk result (λ outline. (lines : List LineView) → HasTaken self lines →
             TestsOf outline self.limits.blocks lines) }
         ensures failed { (fault : faults.BlockFault) → self.fault ≡ Some fault → result ≡ Err fault }
-        ensures memory { self.fault ≡ None → IfErr result IsTooMuch }
+        ensures memory { self.fault ≡ None → IfErr result (λ fault. fault ≡ block_faults.NoMemory) }
     {
         self.close()?;
         // This number of lines, within this number of containers, is read less often than can be counted.

@@ -31,8 +31,8 @@ use crate::counted_line::{CountedLine, LineInItems};
 use crate::leaf_block::LeafBlock;
 use crate::level::Level;
 use crate::room::Room;
-use cm_text::Rules;
-use cm_tree::{ListKind, RawBlocks, RawChunk, RawFault, RawTree};
+use cm_text::{NoMemory, Rules};
+use cm_tree::{ListKind, RawBlocks, RawChunk, RawTree};
 use std::alloc::{AllocError, Global};
 use std::marker::Model;
 use std::mem;
@@ -362,7 +362,7 @@ impl Stack {
     }
 
     /// Opens a container, and enters it: the innermost level becomes its enclosing one.
-    fn open(&mut self, alloc: Global, container: Container) -> Result<(), RawFault>
+    fn open(&mut self, alloc: Global, container: Container) -> Result<(), AllocError>
         ensures frames { OnOk result (self.new.frames
             ≡ self.old.frames ++ record { level = self.old.level; container = container_of container } ∷ []) }
         ensures level { OnOk result (self.new.level ≡ empty_level) }
@@ -376,7 +376,7 @@ impl Stack {
     }
 
     /// Opens a quote.
-    pub(crate) fn open_quote(&mut self, alloc: Global) -> Result<(), RawFault>
+    pub(crate) fn open_quote(&mut self, alloc: Global) -> Result<(), AllocError>
         ensures frames { OnOk result (self.new.frames
             ≡ self.old.frames ++ record { level = block_opens self.old.level; container = a_quote } ∷ []) }
         ensures level { OnOk result (self.new.level ≡ empty_level) }
@@ -388,7 +388,7 @@ impl Stack {
     }
 
     /// Closes the open list, unless an item of this kind continues it. Then a chunk may be finished.
-    fn begin_list(&mut self, kind: ListKind) -> Result<(), RawFault>
+    fn begin_list(&mut self, kind: ListKind) -> Result<(), AllocError>
         ensures level { OnOk result (item_opens self.new.level kind ≡ item_opens self.old.level kind) }
         ensures frames { self.new.frames ≡ self.old.frames }
         ensures bare { self.new.bare ≡ self.old.bare }
@@ -400,7 +400,7 @@ impl Stack {
     }
 
     /// Opens an item.
-    fn open_item(&mut self, alloc: Global, kind: ListKind, column: usize) -> Result<(), RawFault>
+    fn open_item(&mut self, alloc: Global, kind: ListKind, column: usize) -> Result<(), AllocError>
         ensures frames { OnOk result (self.new.frames
             ≡ self.old.frames
             ++ record { level = item_opens self.old.level kind; container = an_item kind column } ∷ []) }
@@ -414,7 +414,7 @@ impl Stack {
     }
 
     /// Closes the innermost container, if there is one.
-    fn close_last(&mut self) -> Result<(), RawFault>
+    fn close_last(&mut self) -> Result<(), AllocError>
         ensures closes { OnOk result ((outer : List open_frame) (last : open_frame) →
             self.old.frames ≡ outer ++ last ∷ [] →
             (self.new.frames ≡ outer)
@@ -444,7 +444,7 @@ impl Stack {
 
     /// Closes the containers from the inside out until `depth` are open. Mostly there are no more.
     #[inline(always)]
-    pub(crate) fn close_to(&mut self, depth: usize) -> Result<(), RawFault>
+    pub(crate) fn close_to(&mut self, depth: usize) -> Result<(), AllocError>
         requires { depth ≤ length self.old.frames }
         ensures frames { OnOk result (self.new.frames ≡ take depth self.old.frames) }
         ensures level { OnOk result (self.new.level
@@ -459,7 +459,7 @@ impl Stack {
 
     /// Closes the containers after the first `depth`, from the inside out.
     #[inline(never)]
-    fn close_after(&mut self, depth: usize) -> Result<(), RawFault>
+    fn close_after(&mut self, depth: usize) -> Result<(), AllocError>
         requires { depth ≤ length self.old.frames }
         ensures frames { OnOk result (self.new.frames ≡ take depth self.old.frames) }
         ensures level { OnOk result (self.new.level
@@ -474,7 +474,7 @@ impl Stack {
 
     /// Puts an item in the place of the innermost container, if that is an item of the same list. Returns
     /// whether it is.
-    fn replace_item(&mut self, kind: ListKind, column: usize) -> Result<bool, RawFault>
+    fn replace_item(&mut self, kind: ListKind, column: usize) -> Result<bool, AllocError>
         ensures frames { IfOk result (λ replaced. replaced ≡ true →
             (outer : List open_frame) (last : open_frame) → self.old.frames ≡ outer ++ last ∷ [] →
             self.new.frames ≡ outer ++ record {
@@ -505,7 +505,7 @@ impl Stack {
         depth: usize,
         kind: ListKind,
         column: usize,
-    ) -> Result<bool, RawFault>
+    ) -> Result<bool, AllocError>
         requires { depth ≤ length self.old.frames }
         ensures frames { IfOk result (λ replaced. replaced ≡ true → self.new.frames
             ≡ take depth self.old.frames
@@ -537,7 +537,7 @@ impl Stack {
         depth: usize,
         kind: ListKind,
         column: usize,
-    ) -> Result<(), RawFault>
+    ) -> Result<(), AllocError>
         requires { depth ≤ length self.old.frames }
         ensures frames { OnOk result (self.new.frames
             ≡ take depth self.old.frames
@@ -588,7 +588,7 @@ impl Stack {
 
     /// Opens a leaf block in the innermost level.
     #[inline(always)]
-    pub(crate) fn open_block(&mut self) -> Result<(), RawFault>
+    pub(crate) fn open_block(&mut self) -> Result<(), AllocError>
         ensures level { OnOk result (self.new.level ≡ block_opens self.old.level) }
         ensures frames { self.new.frames ≡ self.old.frames }
         ensures bare { self.new.bare ≡ self.old.bare }
@@ -640,17 +640,18 @@ impl Stack {
 
     /// Adds a leaf block that was opened.
     #[inline(always)]
-    pub(crate) fn put(&mut self, leaf: &LeafBlock<'_>) -> Result<(), RawFault>
+    pub(crate) fn put(&mut self, leaf: &LeafBlock<'_>) -> Result<(), NoMemory>
         ensures level { OnOk result (self.new.level ≡ block_closes self.old.level (block_of leaf.now)) }
         ensures frames { self.new.frames ≡ self.old.frames }
         ensures bare { self.new.bare ≡ self.old.bare }
     {
         let block = leaf.place(&mut self.raw)?;
-        self.level.close_block(block)
+        self.level.close_block(block)?;
+        Ok(())
     }
 
     /// The blocks of the document. No container is open.
-    pub(crate) fn into_tree(self) -> Result<RawTree, RawFault>
+    pub(crate) fn into_tree(self) -> Result<RawTree, AllocError>
         requires { self.frames ≡ [] }
         ensures { IfOk result (λ blocks. blocks ≡ closed_blocks self.level) }
     {

@@ -20,7 +20,6 @@ told text.NoMemory = NoMemory
 abbrev pub refused : BlockFault → Fault
 refused (blocks.BlocksTooDeep line) = BlocksTooDeep line
 refused blocks.NoMemory = NoMemory
-refused (blocks.TooLarge place) = NoMemory
 
 -- why HTML isn't written to its end, as the fault of the task that writes it
 abbrev pub unwritten : HtmlFault → Fault

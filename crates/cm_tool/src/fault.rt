@@ -27,8 +27,7 @@ pub enum Fault {
     BlocksTooDeep { line: u128 },
     /// The inlines of the leaf, counted from 1, nest deeper than the limit.
     InlinesTooDeep { leaf: usize },
-    /// A request for memory was refused; or a place among the texts, blocks or items of the document needs
-    /// more than 32 bits, which none does within the limits: a byte becomes at most three.
+    /// A request for memory was refused.
     NoMemory,
     /// The reader failed, or the file couldn't be opened.
     ReadFailed,
@@ -145,7 +144,7 @@ impl From<BlockFault> for Fault {
     fn from(fault: BlockFault) -> Fault {
         match fault {
             BlockFault::BlocksTooDeep { line } => Fault::BlocksTooDeep { line },
-            BlockFault::NoMemory | BlockFault::TooLarge(_) => Fault::NoMemory,
+            BlockFault::NoMemory => Fault::NoMemory,
         }
     }
 }

@@ -78,7 +78,7 @@ pub use definitions::Definitions;
 pub use depth::{block_depth, inline_depth};
 pub use items::Items;
 pub use link_target::LinkTarget;
-pub use raw_blocks::{FarPlace, RawBlock, RawBlocks, RawFault, RawItem};
+pub use raw_blocks::{RawBlock, RawBlocks, RawItem};
 pub use raw_html::has_raw_html;
 pub use raw_tree::{RawChunk, RawTree};
 pub use text::Text;

@@ -5,22 +5,18 @@
 //! and its item's blocks. It would free them much later, which is when an allocator is slowest. The content
 //! of a quote or item is moved to the end when that closes, so each block is moved twice at most.
 //!
-//! A place has 32 bits, which halves the size of a block. A document that needs more is `TooLarge`, which
-//! takes a [`FarPlace`]; none within the limits does, because a text has at most 2^30 bytes, each of which
-//! becomes at most three.
-ghost use Rattle.std.specs.Prelude.{◌≡◌, ◌≢◌, ◌<◌, ◌≤◌, ◌+◌, ◌^◌, [], ◌++◌, length, get_or, nat_le};
-ghost use Rattle.std.specs.Prelude.{IfOk, IfErr, OnOk};
+//! A place has 32 bits, which halves the size of a block. Where one would need more, all memory is requested,
+//! which no allocator gives. No document within the limits gets there, because a byte of it becomes at most
+//! three bytes of its texts (`texts_are_short` in `cm_block`).
+ghost use Rattle.std.specs.Prelude.{◌≡◌, ◌<◌, [], ◌++◌, length, get_or, nat_le, IfOk, OnOk};
 ghost use Rattle.std.specs.List.{slice_range};
 ghost use Rattle.cm_tree.specs.RawBlocks.{raw_inlines, block_in, blocks_in, item_in, items_in};
 ghost use Rattle.cm_tree.specs.RawBlocks.{IsBetween, IsPlaced, ArePlaced, IsItem, AreItems, Grows};
-ghost use Rattle.cm_tree.specs.declared.raw_blocks.RawFault.TheVariants as faults;
 ghost use Rattle.cm_tree.specs.declared.tree.Block.TheVariants as trees;
 
 use crate::tree::ListKind;
-use cm_text::NoMemory as OutOfMemory;
-use std::alloc::{AllocError, AllocFailed, Global};
+use std::alloc::{AllocError, Global};
 use std::marker::Model;
-use thiserror::Error;
 
 /// How many bytes of texts fill a chunk of a document.
 const FULL: usize = 32_768;
@@ -88,57 +84,6 @@ pub struct RawItem {
     pub to: u32,
 }
 
-/// Evidence that a place needs more than 32 bits. Only the calls of [`RawBlocks`] make one, so no other code
-/// can say that a document is too large.
-#[derive(Clone, Copy, Debug, PartialEq, Eq)]
-pub struct FarPlace {
-    made_here: (),
-}
-
-/// Why a raw block isn't made.
-#[derive(Clone, Copy, Debug, PartialEq, Eq, Drop, Error)]
-pub enum RawFault {
-    /// A request for memory was refused.
-    #[error("out of memory")]
-    NoMemory,
-    /// The texts would have 2^32 bytes or more, or there would be as many blocks or items.
-    #[error("document too large")]
-    TooLarge(FarPlace),
-}
-
-impl From<AllocError> for RawFault {
-    ghost use Rattle.std.specs.Prelude.{◌≡◌};
-    ghost use Rattle.cm_tree.specs.declared.raw_blocks.RawFault.TheVariants.{NoMemory};
-
-    ghost from_gives = { λ _ e. e ≡ NoMemory };
-
-    fn from(_: AllocError) -> RawFault {
-        RawFault::NoMemory
-    }
-}
-
-impl<T: Drop> From<AllocFailed<T>> for RawFault {
-    ghost use Rattle.std.specs.Prelude.{◌≡◌};
-    ghost use Rattle.cm_tree.specs.declared.raw_blocks.RawFault.TheVariants.{NoMemory};
-
-    ghost from_gives = { λ _ e. e ≡ NoMemory };
-
-    fn from(_: AllocFailed<T>) -> RawFault {
-        RawFault::NoMemory
-    }
-}
-
-impl From<OutOfMemory> for RawFault {
-    ghost use Rattle.std.specs.Prelude.{◌≡◌};
-    ghost use Rattle.cm_tree.specs.declared.raw_blocks.RawFault.TheVariants.{NoMemory};
-
-    ghost from_gives = { λ _ e. e ≡ NoMemory };
-
-    fn from(_: OutOfMemory) -> RawFault {
-        RawFault::NoMemory
-    }
-}
-
 /// What [`RawBlock`]s are made of: the texts of all, the blocks inside others, each after those inside it,
 /// and the items.
 ///
@@ -163,17 +108,6 @@ impl Model for RawBlocks {
     ghost view = { λ r. raw_held (string_bytes r.text) r.blocks.items r.items.items };
 
     ghost invariant = { λ r. IsHeld (string_bytes r.text) r.blocks.items r.items.items };
-}
-
-/// A place as a block has it.
-fn place(at: usize) -> Result<u32, RawFault>
-    ensures place { IfOk result (λ place. place ≡ at) }
-    ensures large { IfErr result (λ fault. 2 ^ 32 ≤ at) }
-{
-    match u32::try_from(at) {
-        Ok(place) => Ok(place),
-        Err(_) => Err(RawFault::TooLarge(FarPlace { made_here: () })),
-    }
 }
 
 impl RawBlocks {
@@ -223,6 +157,20 @@ impl RawBlocks {
         self.text.len() >= FULL
     }
 
+    /// A place as a block has it. Where it needs more than 32 bits, all memory is requested, which no allocator
+    /// gives.
+    fn place(&self, at: usize) -> Result<u32, AllocError>
+        ensures { IfOk result (λ place. place ≡ at) }
+    {
+        match u32::try_from(at) {
+            Ok(place) => Ok(place),
+            Err(_) => {
+                String::with_capacity(*self.text.allocator(), usize::MAX)?;
+                Err(AllocError)
+            }
+        }
+    }
+
     /// Appends a text to the others.
     fn put_text(&mut self, text: &str) -> Result<(), AllocError>
         ensures text { OnOk result (self.new.text ≡ self.old.text ++ text.now) }
@@ -237,18 +185,17 @@ impl RawBlocks {
     }
 
     /// Appends a text to the others, and returns where it starts and where it ends.
-    fn push_text(&mut self, text: &str) -> Result<(u32, u32), RawFault>
+    fn push_text(&mut self, text: &str) -> Result<(u32, u32), AllocError>
         ensures text { OnOk result (self.new.text ≡ self.old.text ++ text.now) }
         ensures from { IfOk result (λ places. places.0 ≡ length self.old.text) }
         ensures end { IfOk result (λ places. places.1 ≡ length self.new.text) }
         ensures between { IfOk result (λ places. IsBetween self.new.text places.0 places.1) }
         ensures grows { Grows self.old self.new }
-        ensures large { IfErr result (λ fault. fault ≢ faults.NoMemory
-            → 2 ^ 32 ≤ length self.old.text + length text.now) }
     {
-        let from = place(self.text.len())?;
+        let len = self.text.len();
+        let from = self.place(len)?;
+        let to = self.place(len + text.len())?;
         self.put_text(text)?;
-        let to = place(self.text.len())?;
         Ok((from, to))
     }
 
@@ -256,16 +203,13 @@ impl RawBlocks {
     ///
     /// # Errors
     ///
-    /// `NoMemory` if a request for memory was refused, `TooLarge` if a place would need more than 32
-    /// bits.
+    /// `AllocError` if a request for memory was refused.
     #[inline(always)]
-    pub fn paragraph(&mut self, source: &str) -> Result<RawBlock, RawFault>
+    pub fn paragraph(&mut self, source: &str) -> Result<RawBlock, AllocError>
         ensures block { IfOk result (λ block.
             block_in self.new block ≡ trees.Paragraph (raw_inlines source.now)) }
         ensures placed { IfOk result (λ block. IsPlaced self.new block) }
         ensures grows { Grows self.old self.new }
-        ensures large { IfErr result (λ fault. fault ≢ faults.NoMemory
-            → 2 ^ 32 ≤ length self.old.text + length source.now) }
     {
         let (from, to) = self.push_text(source)?;
         Ok(RawBlock::Paragraph { from, to })
@@ -275,15 +219,12 @@ impl RawBlocks {
     ///
     /// # Errors
     ///
-    /// `NoMemory` if a request for memory was refused, `TooLarge` if a place would need more than 32
-    /// bits.
-    pub fn heading(&mut self, level: u8, source: &str) -> Result<RawBlock, RawFault>
+    /// `AllocError` if a request for memory was refused.
+    pub fn heading(&mut self, level: u8, source: &str) -> Result<RawBlock, AllocError>
         ensures block { IfOk result (λ block.
             block_in self.new block ≡ trees.Heading level (raw_inlines source.now)) }
         ensures placed { IfOk result (λ block. IsPlaced self.new block) }
         ensures grows { Grows self.old self.new }
-        ensures large { IfErr result (λ fault. fault ≢ faults.NoMemory
-            → 2 ^ 32 ≤ length self.old.text + length source.now) }
     {
         let (from, to) = self.push_text(source)?;
         Ok(RawBlock::Heading { level, from, to })
@@ -294,14 +235,11 @@ impl RawBlocks {
     ///
     /// # Errors
     ///
-    /// `NoMemory` if a request for memory was refused, `TooLarge` if a place would need more than 32
-    /// bits.
-    pub fn code(&mut self, info: &str, text: &str) -> Result<RawBlock, RawFault>
+    /// `AllocError` if a request for memory was refused.
+    pub fn code(&mut self, info: &str, text: &str) -> Result<RawBlock, AllocError>
         ensures block { IfOk result (λ block. block_in self.new block ≡ trees.Code info.now text.now) }
         ensures placed { IfOk result (λ block. IsPlaced self.new block) }
         ensures grows { Grows self.old self.new }
-        ensures large { IfErr result (λ fault. fault ≢ faults.NoMemory
-            → 2 ^ 32 ≤ length self.old.text + length info.now + length text.now) }
     {
         let (at, _) = self.push_text(info)?;
         let (beyond, to) = self.push_text(text)?;
@@ -316,14 +254,11 @@ impl RawBlocks {
     ///
     /// # Errors
     ///
-    /// `NoMemory` if a request for memory was refused, `TooLarge` if a place would need more than 32
-    /// bits.
-    pub fn html(&mut self, text: &str) -> Result<RawBlock, RawFault>
+    /// `AllocError` if a request for memory was refused.
+    pub fn html(&mut self, text: &str) -> Result<RawBlock, AllocError>
         ensures block { IfOk result (λ block. block_in self.new block ≡ trees.Html text.now) }
         ensures placed { IfOk result (λ block. IsPlaced self.new block) }
         ensures grows { Grows self.old self.new }
-        ensures large { IfErr result (λ fault. fault ≢ faults.NoMemory
-            → 2 ^ 32 ≤ length self.old.text + length text.now) }
     {
         let (from, to) = self.push_text(text)?;
         Ok(RawBlock::Html { from, to })
@@ -334,15 +269,17 @@ impl RawBlocks {
     ///
     /// # Errors
     ///
-    /// `NoMemory` if a request for memory was refused, `TooLarge` if a place would need more than 32
-    /// bits.
-    pub fn definition(&mut self, label: &str, dest: &str, title: &str) -> Result<RawBlock, RawFault>
+    /// `AllocError` if a request for memory was refused.
+    pub fn definition(
+        &mut self,
+        label: &str,
+        dest: &str,
+        title: &str,
+    ) -> Result<RawBlock, AllocError>
         ensures block { IfOk result (λ block.
             block_in self.new block ≡ trees.Definition label.now dest.now title.now) }
         ensures placed { IfOk result (λ block. IsPlaced self.new block) }
         ensures grows { Grows self.old self.new }
-        ensures large { IfErr result (λ fault. fault ≢ faults.NoMemory
-            → 2 ^ 32 ≤ length self.old.text + length label.now + length dest.now + length title.now) }
     {
         let (first, _) = self.push_text(label)?;
         let (second, _) = self.push_text(dest)?;
@@ -359,19 +296,17 @@ impl RawBlocks {
     ///
     /// # Errors
     ///
-    /// `NoMemory` if a request for memory was refused, `TooLarge` if a place would need more than 32
-    /// bits.
-    pub fn item(&mut self, blocks: &[RawBlock]) -> Result<RawItem, RawFault>
+    /// `AllocError` if a request for memory was refused.
+    pub fn item(&mut self, blocks: &[RawBlock]) -> Result<RawItem, AllocError>
         requires { ArePlaced self.old blocks.now }
         ensures item { IfOk result (λ item. item_in self.new item ≡ blocks_in self.old blocks.now) }
         ensures placed { IfOk result (λ item. IsItem self.new item) }
         ensures grows { Grows self.old self.new }
-        ensures large { IfErr result (λ fault. fault ≢ faults.NoMemory
-            → 2 ^ 32 ≤ length self.old.blocks + length blocks.now) }
     {
-        let from = place(self.blocks.len())?;
+        let len = self.blocks.len();
+        let from = self.place(len)?;
+        let to = self.place(len + blocks.len())?;
         self.blocks.extend_from_slice(blocks)?;
-        let to = place(self.blocks.len())?;
         Ok(RawItem { from, to })
     }
 
@@ -379,16 +314,13 @@ impl RawBlocks {
     ///
     /// # Errors
     ///
-    /// `NoMemory` if a request for memory was refused, `TooLarge` if a place would need more than 32
-    /// bits.
-    pub fn quote(&mut self, blocks: &[RawBlock]) -> Result<RawBlock, RawFault>
+    /// `AllocError` if a request for memory was refused.
+    pub fn quote(&mut self, blocks: &[RawBlock]) -> Result<RawBlock, AllocError>
         requires { ArePlaced self.old blocks.now }
         ensures block { IfOk result (λ block.
             block_in self.new block ≡ trees.Quote (blocks_in self.old blocks.now)) }
         ensures placed { IfOk result (λ block. IsPlaced self.new block) }
         ensures grows { Grows self.old self.new }
-        ensures large { IfErr result (λ fault. fault ≢ faults.NoMemory
-            → 2 ^ 32 ≤ length self.old.blocks + length blocks.now) }
     {
         let RawItem { from, to } = self.item(blocks)?;
         Ok(RawBlock::Quote { from, to })
@@ -398,25 +330,23 @@ impl RawBlocks {
     ///
     /// # Errors
     ///
-    /// `NoMemory` if a request for memory was refused, `TooLarge` if a place would need more than 32
-    /// bits.
+    /// `AllocError` if a request for memory was refused.
     pub fn list(
         &mut self,
         kind: ListKind,
         tight: bool,
         items: &[RawItem],
-    ) -> Result<RawBlock, RawFault>
+    ) -> Result<RawBlock, AllocError>
         requires { AreItems self.old items.now }
         ensures block { IfOk result (λ block.
             block_in self.new block ≡ trees.List kind tight (items_in self.old items.now)) }
         ensures placed { IfOk result (λ block. IsPlaced self.new block) }
         ensures grows { Grows self.old self.new }
-        ensures large { IfErr result (λ fault. fault ≢ faults.NoMemory
-            → 2 ^ 32 ≤ length self.old.items + length items.now) }
     {
-        let from = place(self.items.len())?;
+        let len = self.items.len();
+        let from = self.place(len)?;
+        let to = self.place(len + items.len())?;
         self.items.extend_from_slice(items)?;
-        let to = place(self.items.len())?;
         Ok(RawBlock::List {
             kind,
             tight,

@@ -1,7 +1,4 @@
--- How many bytes the texts of a document's blocks have: at most three for each of its own, and one.
---
--- A tab that is cut leaves up to three spaces, U+0000 becomes the three bytes of U+FFFD, and each line of code ends with a line feed,
--- also one that the end of the document ends.
+-- How many bytes the texts of a document's blocks have.
 use Rattle.std.proofs.Common.{◌≡◌, ℕ, zero, suc, ◌+◌, ◌*◌, ◌≤◌, ◌==◌, Bool, true, false, List, [], ◌∷◌, ◌++◌, length, map, refl, arith, le_refl}
 use Rattle.std.specs.Prelude.{if◌then◌else◌}
 use Rattle.std.specs.List.{flat_map}
@@ -10,7 +7,8 @@ use Rattle.cm_text.specs.Rules.{Rules}
 use Rattle.cm_text.specs.Lines.{LineView, text_of_byte, text_of, last_line, lines_after, lines_of, plain_line, plain_lines_of}
 use Rattle.cm_scan.specs.blocks.Blocks.{parts_of}
 use Rattle.cm_block.proofs.lemmas.TextSizes.{byte_weight, weight, weight_of}
-use Rattle.cm_block.proofs.lemmas.PartSizes.{part_sizes, part-sizes}
+use Rattle.cm_block.specs.Sizes.{part_sizes, TextsAreShort}
+use Rattle.cm_block.proofs.lemmas.PartSizes.{part-sizes}
 
 weight-append : (bs cs : List ℕ) → weight (bs ++ cs) ≡ weight bs + weight cs
 unfolding weight
@@ -55,7 +53,6 @@ lines-weight : (text : List ℕ) → weight_of (plain_lines_of text) ≤ weight 
 unfolding weight
 lines-weight text = omega (arith, after-weight false [] text)
 
--- The texts of a document's blocks have at most three bytes for each of its own, and one.
-pub document-size : (rules : Rules) (bytes : List ℕ) → part_sizes (parts_of rules (plain_lines_of (text_of bytes))) ≤ 3 * length bytes + 1
-document-size rules bytes =
+pub texts_are_short : TextsAreShort
+texts_are_short rules bytes =
     omega (arith, part-sizes rules (plain_lines_of (text_of bytes)), lines-weight (text_of bytes), text-weight bytes)

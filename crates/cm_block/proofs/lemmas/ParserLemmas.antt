@@ -16,7 +16,7 @@ use Rattle.cm_block.specs.Depths.{nesting}
 use Rattle.cm_block.specs.Frames.{Frame, Row, is_last as is_last_frame, stack_with, nest}
 use Rattle.cm_block.specs.steps.FrameSteps.{within, inward, matching, quoted_by, close_frames}
 use Rattle.cm_block.specs.declared.fault.BlockFault.{BlockFault}
-use Rattle.cm_block.specs.declared.fault.BlockFault.TheVariants.{BlocksTooDeep, NoMemory, TooLarge}
+use Rattle.cm_block.specs.declared.fault.BlockFault.TheVariants.{BlocksTooDeep, NoMemory}
 use Rattle.cm_block.specs.steps.FrameStarts.{begun_in, DeepIn}
 use Rattle.cm_block.specs.declared.parser.BlockParser as parser
 use Rattle.cm_text.specs.Limits.{LimitsView}
@@ -148,7 +148,6 @@ module _ (limits : LimitsView) (st : Stack) (lines : List LineView) (line l : Li
 
   pub tells_deep : (fault : BlockFault) → Deep fault limits st l → TellsDepth fault limits (lines ++ line ∷ [])
   tells_deep NoMemory h = tt
-  tells_deep (TooLarge place) h = tt
   tells_deep (BlocksTooDeep n) h =
       by_depth true (grind (arith, h.0))
       ∙ ap Some (sym (h.1 ∙ ap suc (ap (λ s. length (close_stack s).owners) holds ∙ one_owner_each limits.rules lines so_far)))
@@ -196,7 +195,6 @@ matched_few rules bare open_text (f ∷ fs) line = go (inward rules f.container 
 pub deep_after : (fault : BlockFault) (limits : LimitsView) (before now : Stack) (line : LineView) (o : Owned) → push_line limits.rules before line ≡ now → (close_stack before).owners ≡ o.owners
     → DeepIn fault limits.blocks now o → Deep fault limits before line
 deep_after NoMemory limits before now line o is owners h = tt
-deep_after (TooLarge place) limits before now line o is owners h = tt
 deep_after (BlocksTooDeep n) limits before now line o is owners h =
     (subst (λ (s : Stack). limits.blocks < nesting s.now) (sym is) h.0, h.1 ∙ ap (λ os. suc (length os)) (sym owners))
 

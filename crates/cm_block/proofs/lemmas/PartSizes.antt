@@ -18,31 +18,10 @@ use Rattle.cm_scan.specs.blocks.Parts.{LeafPart, paragraph, heading, code, html,
 use Rattle.cm_scan.specs.blocks.Starts.{Start, IndentedCode, QuoteMarker, AtxHeading, OpeningFence, HtmlStart, BreakLine, ItemStart, TextLine, or_text, start_of_content, start_of, after_quote_marker, continuation_in_quote, content_column, first_content, continuation_in_item}
 use Rattle.cm_scan.specs.blocks.Blocks.{text_run, TextRun, fenced, html_lines, code_line, indented, inside, definition_leaves, content_leaf, leaves_of_run, quote_parts, item_parts, fence_parts, html_parts, code_parts, text_parts, parts_by_start, parts_by_cases, parts_within, parts_of}
 use Rattle.cm_scan.specs.steps.LineSteps.{start_by}
+use Rattle.cm_block.specs.Sizes.{leaf_size, part_sizes, item_sizes}
 use Rattle.cm_block.proofs.lemmas.ReadSizes.{trimmed-length, heading-length, info-length, definition_sizes, definitions-length}
 use Rattle.cm_block.proofs.lemmas.ResolvedSizes.{unescaped-length, resolved-info}
 use Rattle.cm_block.proofs.lemmas.TextSizes.{weight, weight_of, weight-length, weight-content, weight-after_quote_marker, weight-first_content, code-length, run-size, fenced-size, html-size, indented-size, inside-size, lighter-quote, lighter-item}
-
--- the texts of the block that a leaf is: in a destination and a title escapes and references are resolved
-abbrev pub leaf_size : LeafPart → ℕ
-leaf_size (paragraph text) = length text
-leaf_size (heading level text) = length text
-leaf_size (code info text) = length info + length text
-leaf_size (html text) = length text
-leaf_size thematic_break = 0
-leaf_size (definition label dest title) = length label + length (unescape dest) + length (unescape title)
-
--- of all leaves
-unfoldable mutual
-  pub part_sizes : Parts → ℕ
-  part_sizes none = 0
-  part_sizes (blank rest) = part_sizes rest
-  part_sizes (leaf x lines rest) = leaf_size x + part_sizes rest
-  part_sizes (quote inside rest) = part_sizes inside + part_sizes rest
-  part_sizes (list kind items rest) = item_sizes items + part_sizes rest
-
-  item_sizes : ItemParts → ℕ
-  item_sizes (last_item inside) = part_sizes inside
-  item_sizes (item inside blanks items) = part_sizes inside + item_sizes items
 
 leaf_sizes : List (LeafPart × ℕ) → ℕ
 leaf_sizes [] = 0

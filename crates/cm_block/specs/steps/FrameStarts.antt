@@ -5,7 +5,7 @@ use Rattle.cm_text.specs.Lines.{LineView}
 use Rattle.cm_tree.specs.declared.tree.Owner.TheVariants.{Marker}
 use Rattle.cm_block.specs.declared.counted_line.starts.Start.{Start}
 use Rattle.cm_block.specs.declared.fault.BlockFault.{BlockFault}
-use Rattle.cm_block.specs.declared.fault.BlockFault.TheVariants.{BlocksTooDeep, NoMemory, TooLarge}
+use Rattle.cm_block.specs.declared.fault.BlockFault.TheVariants.{BlocksTooDeep, NoMemory}
 use Rattle.cm_block.specs.declared.containers.Innermost.{Innermost}
 use Rattle.cm_block.specs.declared.containers.Innermost.TheVariants.{TooDeep, Blank, Leaf}
 use Rattle.cm_block.specs.OpenLeaf.{LeafLine, no_leaf, begins_leaf, begin_of_start}
@@ -58,4 +58,3 @@ LeafBegins rules start line before owned now =
 abbrev pub DeepIn : BlockFault → ℕ → Stack → Owned → Type 0
 DeepIn (BlocksTooDeep n) limit now owned = (limit < nesting now.now) × (n ≡ suc (length owned.owners))
 DeepIn NoMemory limit now owned = ⊤
-DeepIn (TooLarge place) limit now owned = ⊤

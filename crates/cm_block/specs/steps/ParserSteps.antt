@@ -4,7 +4,7 @@ use Rattle.cm_text.specs.Limits.{LimitsView}
 use Rattle.cm_text.specs.Lines.{LineView}
 use Rattle.cm_block.specs.declared.parser.BlockParser as code
 use Rattle.cm_block.specs.declared.fault.BlockFault.{BlockFault}
-use Rattle.cm_block.specs.declared.fault.BlockFault.TheVariants.{BlocksTooDeep, NoMemory, TooLarge}
+use Rattle.cm_block.specs.declared.fault.BlockFault.TheVariants.{BlocksTooDeep, NoMemory}
 use Rattle.cm_block.specs.Level.{Level, block_opens}
 use Rattle.cm_block.specs.Stack.{Stack, close_stack, push_leaf_line, push_line}
 use Rattle.cm_block.specs.Depths.{nesting}
@@ -17,7 +17,6 @@ use Rattle.cm_block.specs.Parser.{stack_of}
 abbrev pub Deep : BlockFault → LimitsView → Stack → LineView → Type 0
 Deep (BlocksTooDeep n) limits before line = (limits.blocks < nesting (push_line limits.rules before line).now) × (n ≡ suc (length (close_stack before).owners))
 Deep NoMemory limits before line = ⊤
-Deep (TooLarge place) limits before line = ⊤
 
 -- a level and the open leaf once a run of text is opened there, unless a leaf is open
 abbrev pub with_run : Level → OpenLeaf → Level × OpenLeaf

@@ -23,7 +23,6 @@ use crate::owners::Owners;
 use crate::stack::Stack;
 use cm_scan::{HtmlKind, OpeningFence};
 use cm_text::{NoMemory, Rules, View};
-use cm_tree::RawFault;
 use std::alloc::Global;
 
 /// The leaf block that a line is by itself: a heading (4.2 ATX headings) or a thematic break (4.1 Thematic
@@ -49,7 +48,7 @@ pub(crate) fn put_whole(
     stack: &mut Stack,
     owners: &mut Owners,
     leaves: &mut usize,
-) -> Result<bool, RawFault>
+) -> Result<bool, NoMemory>
     requires counted { leaves.old ≡ owners.old.leaves }
     ensures put { IfOk result (λ put. put ≡ is_whole (seen start.now)) }
     ensures level { OnOk result (stack.new.level

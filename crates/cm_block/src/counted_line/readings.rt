@@ -30,7 +30,6 @@ use crate::owners::Owners;
 use crate::stack::Stack;
 use cm_scan::{FenceKind, HtmlKind, ItemMarker};
 use cm_text::{NoMemory, Rules, View};
-use cm_tree::RawFault;
 use std::alloc::{AllocError, Global};
 
 /// One reading of the rest of a line.
@@ -377,7 +376,7 @@ pub(crate) fn put_whole(
     stack: &mut Stack,
     owners: &mut Owners,
     leaves: &mut usize,
-) -> Result<bool, RawFault>
+) -> Result<bool, NoMemory>
     requires counted { leaves.old ≡ owners.old.leaves }
     ensures put { IfOk result (λ put. put ≡ is_whole (seen start.now.found)) }
     ensures level { OnOk result (stack.new.level

@@ -9,7 +9,7 @@ ghost use Rattle.cm_text.specs.Lines.{LineView};
 ghost use Rattle.cm_text.specs.Feed.{StandsFor as FeedStandsFor, with_ready, count};
 ghost use Rattle.cm_scan.specs.laws.PartLaws.{AreLines};
 ghost use Rattle.cm_block.specs.Parser.{HasTaken, TellsDepth};
-ghost use Rattle.cm_block.specs.Faults.{IsTooMuch};
+ghost use Rattle.cm_block.specs.declared.fault.BlockFault.TheVariants as block_faults;
 ghost use Rattle.cm_tool.specs.declared.fault.Fault as faults;
 ghost use Rattle.cm_tool.specs.Faults.{fault_of, settled_fault_of};
 ghost use Rattle.cm_tool.specs.Parsing.{Goes, HasTakenIn, Answers, TellsFault};
@@ -190,7 +190,7 @@ fn hand_over_text(feed: &mut LineBuffer, blocks: &mut BlockParser) -> Result<(),
     ensures limit { feed.new.limit ≡ feed.old.limit }
     ensures limits { blocks.new.limits ≡ blocks.old.limits }
     ensures handed { OnOk result (Hands feed.old blocks.old feed.new blocks.new) }
-    ensures memory { IfErr result IsTooMuch }
+    ensures memory { IfErr result (λ fault. fault ≡ block_faults.NoMemory) }
 {
     if !blocks.takes_text(0) {
         return Ok(());

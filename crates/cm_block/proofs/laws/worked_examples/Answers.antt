@@ -8,6 +8,7 @@ use Rattle.cm_tree.specs.declared.tree.Block.TheVariants.{outs-Paragraph, outs-Q
 use Rattle.cm_tree.specs.declared.tree.Block.TheFolds.{fold_out-Block}
 use Rattle.cm_block.specs.Depths.{nesting, line_depths}
 use Rattle.cm_block.specs.Tests.{container_step}
+use Rattle.cm_block.specs.Sizes.{SizeExamples, part_sizes}
 use Rattle.cm_block.specs.WorkedExamples.{StackExamples}
 use Rattle.cm_block.proofs.laws.worked_examples.Goals as goal
 
@@ -29,5 +30,12 @@ examples = record {
   depths = refl;
 }
 
-pub returns : goal.returns
-returns c = examples
+sizes : SizeExamples
+unfolding block_structure label_folding part_sizes
+sizes = record { paragraph_in_a_quote = refl; resolved_title = refl; cut_tab = refl }
+
+pub returns-clause-stack : goal.returns-clause-stack
+returns-clause-stack c = examples
+
+pub returns-clause-sizes : goal.returns-clause-sizes
+returns-clause-sizes c = sizes

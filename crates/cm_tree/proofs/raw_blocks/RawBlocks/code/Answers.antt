@@ -9,9 +9,6 @@ returns-in_err-beyond-clause-grows c = grows-more _ _ _ c.in_ok-at.ensures.grows
 pub returns-clause-grows : goal.returns-clause-grows
 returns-clause-grows c = grows-more _ _ _ c.in_ok-at.ensures.grows c.in_ok-beyond.ensures.grows
 
-pub returns-in_err-beyond-clause-large : goal.returns-in_err-beyond-clause-large
-returns-in_err-beyond-clause-large c = grind (arith, common_steps)
-
 pub returns-clause-block : goal.returns-clause-block
 returns-clause-block c = grind (arith, common_steps)
 

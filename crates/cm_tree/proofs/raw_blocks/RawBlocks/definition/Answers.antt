@@ -12,12 +12,6 @@ returns-in_err-third-clause-grows c = grows-more _ _ _ c.in_ok-first.ensures.gro
 pub returns-clause-grows : goal.returns-clause-grows
 returns-clause-grows c = grows-more _ _ _ c.in_ok-first.ensures.grows (grows-more _ _ _ c.in_ok-second.ensures.grows c.in_ok-third.ensures.grows)
 
-pub returns-in_err-second-clause-large : goal.returns-in_err-second-clause-large
-returns-in_err-second-clause-large c = grind (arith, common_steps)
-
-pub returns-in_err-third-clause-large : goal.returns-in_err-third-clause-large
-returns-in_err-third-clause-large c = grind (arith, common_steps)
-
 pub returns-clause-block : goal.returns-clause-block
 returns-clause-block c = grind (arith, common_steps)
 

@@ -1,6 +1,5 @@
 use Rattle.std.proofs.Common.{◌≡◌, [], length, ap, sym, arith, ◌∙◌}
 use Rattle.std.proofs.lemmas.List.{append-nil}
-use Rattle.std.proofs.lemmas.Result.{err_from_is_err_and}
 use Rattle.cm_tree.specs.RawBlocks.{Raw, blocks_in}
 use Rattle.cm_tree.proofs.lemmas.RawLemmas.{grows-same, made-length, blocks-beyond, blocks-held, blocks-last}
 use Rattle.cm_tree.proofs.raw_blocks.RawBlocks.item.Goals as goal
@@ -12,36 +11,21 @@ returns-in_err-extend_from_slice-clause-grows c =
 pub returns-in_err-from-clause-grows : goal.returns-in_err-from-clause-grows
 returns-in_err-from-clause-grows c = grows-same c.args.self.now
 
-pub invariant_of-self-in_err-to : goal.invariant_of-self-in_err-to
-invariant_of-self-in_err-to c = blocks-held _ _ _ c.self.invariant c.args.blocks.now _ c.in_ok-extend_from_slice.ensures.items (rw c.self.view_is c.requires)
-
 pub returns-in_err-to-clause-grows : goal.returns-in_err-to-clause-grows
-returns-in_err-to-clause-grows c = rw c.self.view_is at (blocks-beyond _ _ _ c.self.invariant c.args.blocks.now _ c.in_ok-extend_from_slice.ensures.items (rw c.self.view_is c.requires))
+returns-in_err-to-clause-grows c = grows-same c.args.self.now
 
 pub invariant_of-self-2 : goal.invariant_of-self-2
 invariant_of-self-2 c = blocks-held _ _ _ c.self.invariant c.args.blocks.now _ c.in_ok-extend_from_slice.ensures.items (rw c.self.view_is c.requires)
 
 pub returns-clause-item : goal.returns-clause-item
 returns-clause-item c =
-    blocks-last _ _ _ c.self.invariant c.args.blocks.now _ c.in_ok-extend_from_slice.ensures.items (rw c.self.view_is c.requires) c.in_ok-from.from c.in_ok-to.to (omega (arith, c.in_ok-from.ensures.place)) (omega (arith, c.in_ok-to.ensures.place, c.in_ok-extend_from_slice.ensures.len))
+    blocks-last _ _ _ c.self.invariant c.args.blocks.now _ c.in_ok-extend_from_slice.ensures.items (rw c.self.view_is c.requires) c.in_ok-from.from c.in_ok-to.to (omega (arith, c.in_ok-from.ensures)) (omega (arith, c.in_ok-to.ensures, c.len-len.ensures, c.in_ok-extend_from_slice.ensures.len))
     ∙ ap (λ (r : Raw). blocks_in r c.args.blocks.now) c.self.view_is
 
 pub returns-clause-placed : goal.returns-clause-placed
 returns-clause-placed c =
     let held = blocks-held _ _ _ c.self.invariant c.args.blocks.now _ c.in_ok-extend_from_slice.ensures.items (rw c.self.view_is c.requires) in
-    (omega (arith, c.in_ok-from.ensures.place, c.in_ok-to.ensures.place, c.in_ok-extend_from_slice.ensures.len), omega (arith, c.in_ok-to.ensures.place, made-length _ _ _ held))
+    (omega (arith, c.in_ok-from.ensures, c.in_ok-to.ensures), omega (arith, c.in_ok-to.ensures, c.len-len.ensures, c.in_ok-extend_from_slice.ensures.len, made-length _ _ _ held))
 
 pub returns-clause-grows : goal.returns-clause-grows
 returns-clause-grows c = rw c.self.view_is at (blocks-beyond _ _ _ c.self.invariant c.args.blocks.now _ c.in_ok-extend_from_slice.ensures.items (rw c.self.view_is c.requires))
-
-pub returns-in_err-from-clause-large : goal.returns-in_err-from-clause-large
-returns-in_err-from-clause-large c =
-    let p = err_from_is_err_and c.from_residual.result c.from_residual.ensures.1 in
-    let same : length c.args.self.now.blocks ≡ length c.self.inside.blocks.items = sym (ap (λ (r : Raw). length r.blocks) c.self.view_is) ∙ made-length _ _ _ c.self.invariant in
-    rw (p.1, p.2) (λ e. omega (arith, c.in_err-from.ensures.large, c.len.ensures, same))
-
-pub returns-in_err-to-clause-large : goal.returns-in_err-to-clause-large
-returns-in_err-to-clause-large c =
-    let p = err_from_is_err_and c.from_residual-in_err-to.result c.from_residual-in_err-to.ensures.1 in
-    let same : length c.args.self.now.blocks ≡ length c.self.inside.blocks.items = sym (ap (λ (r : Raw). length r.blocks) c.self.view_is) ∙ made-length _ _ _ c.self.invariant in
-    rw (p.1, p.2) (λ e. omega (arith, c.in_err-to.ensures.large, c.len-2.ensures, c.in_ok-extend_from_slice.ensures.len, same))

@@ -1,6 +1,5 @@
 use Rattle.std.proofs.Common.{◌≡◌, [], length, ap, sym, arith, ◌∙◌}
 use Rattle.std.proofs.lemmas.List.{append-nil}
-use Rattle.std.proofs.lemmas.Result.{err_from_is_err_and}
 use Rattle.cm_tree.specs.RawBlocks.{Raw, items_in}
 use Rattle.cm_tree.specs.declared.tree.Block.TheVariants as trees
 use Rattle.cm_tree.proofs.lemmas.RawLemmas.{grows-same, items-length, items-beyond, items-held, items-last}
@@ -13,11 +12,8 @@ returns-in_err-extend_from_slice-clause-grows c =
 pub returns-in_err-from-clause-grows : goal.returns-in_err-from-clause-grows
 returns-in_err-from-clause-grows c = grows-same c.args.self.now
 
-pub invariant_of-self-in_err-to : goal.invariant_of-self-in_err-to
-invariant_of-self-in_err-to c = items-held _ _ _ c.self.invariant c.args.items.now _ c.in_ok-extend_from_slice.ensures.items (rw c.self.view_is c.requires)
-
 pub returns-in_err-to-clause-grows : goal.returns-in_err-to-clause-grows
-returns-in_err-to-clause-grows c = rw c.self.view_is at (items-beyond _ _ _ c.self.invariant c.args.items.now _ c.in_ok-extend_from_slice.ensures.items (rw c.self.view_is c.requires))
+returns-in_err-to-clause-grows c = grows-same c.args.self.now
 
 pub invariant_of-self-2 : goal.invariant_of-self-2
 invariant_of-self-2 c = items-held _ _ _ c.self.invariant c.args.items.now _ c.in_ok-extend_from_slice.ensures.items (rw c.self.view_is c.requires)
@@ -25,20 +21,8 @@ invariant_of-self-2 c = items-held _ _ _ c.self.invariant c.args.items.now _ c.i
 pub returns-clause-block : goal.returns-clause-block
 returns-clause-block c =
     ap (trees.List c.args.kind c.args.tight)
-    (items-last _ _ _ c.self.invariant c.args.items.now _ c.in_ok-extend_from_slice.ensures.items (rw c.self.view_is c.requires) c.in_ok-from.from c.in_ok-to.to (omega (arith, c.in_ok-from.ensures.place)) (omega (arith, c.in_ok-to.ensures.place, c.in_ok-extend_from_slice.ensures.len))
+    (items-last _ _ _ c.self.invariant c.args.items.now _ c.in_ok-extend_from_slice.ensures.items (rw c.self.view_is c.requires) c.in_ok-from.from c.in_ok-to.to (omega (arith, c.in_ok-from.ensures)) (omega (arith, c.in_ok-to.ensures, c.len-len.ensures, c.in_ok-extend_from_slice.ensures.len))
     ∙ ap (λ (r : Raw). items_in r c.args.items.now) c.self.view_is)
 
 pub returns-clause-grows : goal.returns-clause-grows
 returns-clause-grows c = rw c.self.view_is at (items-beyond _ _ _ c.self.invariant c.args.items.now _ c.in_ok-extend_from_slice.ensures.items (rw c.self.view_is c.requires))
-
-pub returns-in_err-from-clause-large : goal.returns-in_err-from-clause-large
-returns-in_err-from-clause-large c =
-    let p = err_from_is_err_and c.from_residual.result c.from_residual.ensures.1 in
-    let same : length c.args.self.now.items ≡ length c.self.inside.items.items = sym (ap (λ (r : Raw). length r.items) c.self.view_is) ∙ items-length _ _ _ c.self.invariant in
-    rw (p.1, p.2) (λ e. omega (arith, c.in_err-from.ensures.large, c.len.ensures, same))
-
-pub returns-in_err-to-clause-large : goal.returns-in_err-to-clause-large
-returns-in_err-to-clause-large c =
-    let p = err_from_is_err_and c.from_residual-in_err-to.result c.from_residual-in_err-to.ensures.1 in
-    let same : length c.args.self.now.items ≡ length c.self.inside.items.items = sym (ap (λ (r : Raw). length r.items) c.self.view_is) ∙ items-length _ _ _ c.self.invariant in
-    rw (p.1, p.2) (λ e. omega (arith, c.in_err-to.ensures.large, c.len-2.ensures, c.in_ok-extend_from_slice.ensures.len, same))
