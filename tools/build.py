@@ -315,11 +315,12 @@ class Kit:
 
     def check(self, crate: Crate, libraries: Mapping[str, pathlib.Path]) -> list[Word]:
         """Returns the command that checks the crate with one job, over libraries as for `steps`."""
-        rattle, _, *words = self.steps(crate, libraries, 1, pathlib.Path("made"))[0]
+        rattle, _, _, *words = self.steps(crate, libraries, 1, pathlib.Path("made"))[0]
+        root = next(root for root in ("src/lib.rt", "src/main.rt") if (crate.folder / root).exists())
         for flag in ("-o", "--toolchain"):
             if flag in words:
                 del words[words.index(flag) : words.index(flag) + 2]
-        return [rattle, "check", *(word for word in words if word != "--statements")]
+        return [rattle, "check", root, *(word for word in words if word != "--statements")]
 
 
 class Store:

@@ -5,7 +5,7 @@
 
 use case_tables::cuts::Counted;
 use cm_html::listing;
-use cm_text::{Limits, NoMemory, Room};
+use cm_text::{Limits, NoMemory, Room, Sink};
 use cm_tool::{
     Fault, Job, Stop, Task, convert, doc_of, html_of, json_of, listing_of, read_text, rewrite, run,
     source_of, tell, tell_no_example,
@@ -86,8 +86,10 @@ fn tell_whether_none(
     errors: &mut Room,
 ) {
     let mut source = Counted::new(pieces, fails);
-    // The task itself is done.
-    let _ = tell_no_example(alloc, limits, &mut source, errors);
+    if errors.failures() < u64::MAX {
+        // The task itself is done.
+        let _ = tell_no_example(alloc, limits, &mut source, errors);
+    }
 }
 
 /// Reports why there is no task.
