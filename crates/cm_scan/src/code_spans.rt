@@ -56,8 +56,7 @@ pub fn code_span<'a>(text: &'a str, at: usize) -> Option<(&'a str, usize)>
     Some((&text[start..close], end))
 }
 
-/// Where the next run of exactly `count` backticks starts and ends, from a place on. Backticks before the
-/// place don't count.
+/// The same for a caller that counts no looks, with the boundaries of characters.
 fn next_run(text: &str, from: usize, count: usize) -> Option<(usize, usize)>
     requires { IsCharBoundary text.now from }
     ensures read { run_at text.now from result ≡ up_to_run count false (drop from text.now) }
@@ -86,7 +85,7 @@ fn first_backtick<L: Ledger>(bytes: &Rest<'_>, looks: &mut Looks<L>) -> Option<u
     (at < bytes.len()).then_some(at)
 }
 
-/// The place after the backticks at a place, however many there are, or none.
+/// The place after the backticks at a place, however many there are, or the place itself.
 #[inline(always)]
 pub fn after_backticks<L: Ledger>(text: &Rest<'_>, at: usize, looks: &mut Looks<L>) -> usize
     requires { at ≤ length text.now }
@@ -98,7 +97,8 @@ pub fn after_backticks<L: Ledger>(text: &Rest<'_>, at: usize, looks: &mut Looks<
     text.len() - text.after(at).skip(is_backtick, looks).len()
 }
 
-/// The same, where each look at a byte counts.
+/// Where the next run of exactly `count` backticks starts and ends, from a place on. Backticks before the
+/// place don't count.
 ///
 /// What it looks at is at most eighteen times what it passes, and 16 bytes more if it finds none.
 pub fn next_backticks<L: Ledger>(

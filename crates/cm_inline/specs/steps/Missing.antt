@@ -59,9 +59,11 @@ after_last last count = option_map_or (λ end. end) (get nat_cmp last count) 0
 
 -- a backtick string of a length follows each place before this one that has no backtick
 abbrev pub FollowsUpTo : List ℕ → ℕ → ℕ → Type 0
-FollowsUpTo source count end = (from : ℕ) → from < end → (get_or source from 0 ≡ byte "`" → ⊥) → up_to_run count false (drop from source) ≡ None → ⊥
+FollowsUpTo source count end =
+    (from : ℕ) → from < end → (get_or source from 0 ≡ byte "`" → ⊥) → up_to_run count false (drop from source) ≡ None → ⊥
 
--- The last backtick string of each length ends where the map says: none of its length follows that place, and one follows each place before.
+-- The last backtick string of each length ends where the map says: none of its length follows that place, and one
+-- follows each place before.
 pub record AreLast (source : List ℕ) (last : BTreeMap ℕ ℕ) : Type 0 where
   pub none : (count : ℕ) → up_to_run count false (drop (after_last last count) source) ≡ None
   pub some : (count end : ℕ) → get nat_cmp last count ≡ Some end → FollowsUpTo source count end
