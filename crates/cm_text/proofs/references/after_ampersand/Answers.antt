@@ -1,7 +1,6 @@
 use Rattle.std.proofs.Common.{sym, ap, refl, ◌∙◌, arith}
-use Rattle.cm_text.specs.References.{reference}
 use Rattle.cm_text.specs.ReferenceReach.{reference_reach}
-use Rattle.cm_text.proofs.lemmas.ReferenceLemmas.{reference-named, begins-cons}
+use Rattle.cm_text.proofs.lemmas.ReferenceLemmas.{reference-named}
 use Rattle.cm_text.proofs.lemmas.ReferenceReach.{begins_reach}
 use Rattle.cm_text.proofs.references.after_ampersand.Goals as goal
 

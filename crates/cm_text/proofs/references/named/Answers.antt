@@ -1,6 +1,5 @@
 use Rattle.std.proofs.Common.{arith}
 use Rattle.std.specs.Char.{is_ascii_alphanumeric}
-use Rattle.std.proofs.lemmas.List.Sums.{prefix_len-le-length}
 use Rattle.cm_text.proofs.lemmas.ReferenceReach.{count_reach, letter_passed}
 use Rattle.cm_text.proofs.references.named.Goals as goal
 

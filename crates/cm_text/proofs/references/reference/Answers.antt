@@ -1,5 +1,4 @@
-use Rattle.std.proofs.Common.{sym, ap, ◌∙◌, drop, arith}
-use Rattle.cm_text.specs.ReferenceReach.{reference_reach}
+use Rattle.std.proofs.Common.{sym, ◌∙◌}
 use Rattle.cm_text.proofs.lemmas.ReferenceLemmas.{reference-none}
 use Rattle.cm_text.proofs.references.reference.Goals as goal
 
