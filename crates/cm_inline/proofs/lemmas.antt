@@ -26,6 +26,7 @@
 -- Words passes on names of the crates below.
 pub mod InlineDepthLemmas
 pub mod NumberLemmas
+pub mod BacktickAtoms
 pub mod BottomLemmas
 pub mod ReserveLemmas
 pub mod SearchLemmas

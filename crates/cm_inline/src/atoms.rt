@@ -1,10 +1,11 @@
 //! The atoms of a leaf's source: what starts at a place (CommonMark 0.31.2, chapter 6).
-ghost use Rattle.std.specs.Prelude.{◌≡◌, ◌≢◌, ◌==◌, ◌+◌, ◌<◌, ◌≤◌, ◌^◌, ◌&&◌, ◌||◌, not, if◌then◌else◌};
+ghost use Rattle.std.specs.Prelude.{◌≡◌, ◌≢◌, ◌==◌, ◌+◌, ◌*◌, ◌<◌, ◌≤◌, ◌^◌, ◌&&◌, ◌||◌, not, if◌then◌else◌};
 ghost use Rattle.std.specs.Prelude.{false, None, length, drop, slice_index, nat_le, option_map};
 ghost use Rattle.std.specs.Prelude.{IfOk, OnOk, IfSome};
 ghost use Rattle.cm_inline.specs.steps.Prelude.{IsCharBoundary, raw_html, Rules, Knows};
 ghost use Rattle.cm_scan.specs.spans.Reach.{html_reach, needed};
-ghost use Rattle.cm_inline.specs.steps.Missing.{IsPast, spare, html_room};
+ghost use Rattle.cm_inline.specs.steps.Missing.{IsPast, spare, link_room, html_room, code_spare};
+ghost use Rattle.cm_inline.specs.steps.Missing.{reference_room};
 ghost use Rattle.cm_inline.specs.steps.Prelude.{Puts, Stands, IsTextTo, Begins, byte_of, is_escaped};
 ghost use Rattle.cm_inline.specs.steps.Prelude.{byte, is_markup};
 ghost use Rattle.cm_inline.specs.declared.marks.Kind.TheVariants.{Soft, Hard};
@@ -15,8 +16,11 @@ use crate::delimiter_runs::{DelimiterRun, Marker};
 use crate::flanking::run_between;
 use crate::marks::Kind;
 use crate::missing_ends::{MissingEnds, form_of};
-use cm_scan::{after_raw_html, after_run, autolink_by, code_span, is_next, trim_end_spaces};
-use cm_text::{Chars, Looks, Rest, Rules, is_ascii_punct, next_marked, reference_at};
+use cm_scan::{
+    after_backticks, after_raw_html, after_run, autolink_in, is_next, next_backticks,
+    trim_end_spaces,
+};
+use cm_text::{Chars, Looks, Rest, Rules, is_ascii_punct, next_marked, reference};
 use std::alloc::{AllocError, Global};
 use std::sync::ledger::Ledger;
 
@@ -75,10 +79,10 @@ pub(crate) fn read_atom<L: Ledger>(
     ensures puts { IfOk result (λ end. Puts rules source.now at end reader.old reader.new) }
 {
     let read = match source.as_bytes()[at] {
-        b'`' => backticks(alloc, source, at, &mut reader.ends)?,
+        b'`' => backticks(alloc, source, at, &mut reader.ends, looks)?,
         b'<' => angle(rules, source, at, &mut reader.ends, looks),
         b'\\' => backslash(source, at),
-        b'&' => ampersand(source, at),
+        b'&' => ampersand(source, at, looks),
         b'\n' => (Atom::LineFeed, at + 1),
         b' ' => line_break(source, at),
         b'!' => exclamation_mark(source, at),
@@ -162,25 +166,31 @@ fn put(
 }
 
 /// A code span, or the whole backtick string as text (6.1 Code spans).
-fn backticks(
+///
+/// A search in vain is made once: then it is known where the last backtick strings are.
+fn backticks<L: Ledger>(
     alloc: Global,
     source: &str,
     at: usize,
     ends: &mut MissingEnds,
+    looks: &mut Looks<L>,
 ) -> Result<(Atom, usize), AllocError>
     requires stands { Stands source.now at (byte "`") }
     requires knows { Knows source.now ends.old }
     ensures atom { IfOk result (λ read.
         (rules : Rules) → Begins rules source.now at read.0 read.1) }
     ensures knows { OnOk result (Knows source.now ends.new) }
+    ensures looks { IfOk result (λ read. looks.new + code_spare source.now ends.new + 19 * at
+        ≤ looks.old + code_spare source.now ends.old + 19 * read.1 + 4) }
 {
-    let start = after_run(b'`', source, at);
+    let text = Rest::of(source.as_bytes());
+    let start = after_backticks(&text, at, looks);
     if ends.is_last_backticks(source, start - at, start) {
         return Ok((Atom::Text, start));
     }
-    match code_span(source, at) {
-        Some((inside, end)) => {
-            let (from, to) = content_between(source, start, start + inside.len());
+    match next_backticks(&text, start, start - at, looks) {
+        Some((close, end)) => {
+            let (from, to) = content_between(source, start, close, looks);
             let code = Kind::Code {
                 from: from as u32,
                 to: to as u32,
@@ -188,7 +198,7 @@ fn backticks(
             Ok((Atom::Whole(code), end))
         }
         None => {
-            ends.look_for_backticks(alloc, source)?;
+            ends.look_for_backticks(alloc, source, looks)?;
             Ok((Atom::Text, start))
         }
     }
@@ -208,10 +218,13 @@ fn angle<L: Ledger>(
     ensures knows { Knows source.now ends.new }
     ensures past { IsPast source.now at ends.old → IsPast source.now (at + 1) ends.new }
     ensures looks { IsPast source.now at ends.old → looks.new + spare source.now ends.new + at
-        ≤ looks.old + spare source.now ends.old + html_room rules source.now at + result.1 }
+        ≤ looks.old + spare source.now ends.old + link_room source.now at + html_room rules source.now at
+        + result.1 }
 {
-    if let Some((link, end)) = autolink_by(rules, source, at) {
+    let text = Rest::of(source.as_bytes()).after(at);
+    if let Some(link) = autolink_in(rules, &text, looks) {
         let is_address = link.is_address;
+        let end = source.len() - link.rest.len();
         return (Atom::Whole(Kind::Autolink { is_address }), end);
     }
     match raw_html(rules, source, at, ends, looks) {
@@ -290,12 +303,14 @@ fn backslash(source: &str, at: usize) -> (Atom, usize)
 }
 
 /// A reference, or `&` as text (2.5 Entity and numeric character references).
-fn ampersand(source: &str, at: usize) -> (Atom, usize)
+fn ampersand<L: Ledger>(source: &str, at: usize, looks: &mut Looks<L>) -> (Atom, usize)
     requires { Stands source.now at (byte "&") }
     ensures atom { (rules : Rules) → Begins rules source.now at result.0 result.1 }
+    ensures looks { looks.new ≤ looks.old + reference_room source.now at }
 {
-    match reference_at(source, at) {
-        Some((chars, end)) => (Atom::Reference(chars), end),
+    let text = Rest::of(source.as_bytes()).after(at);
+    match reference(&text, looks) {
+        Some((chars, len)) => (Atom::Reference(chars), at + len),
         None => (Atom::Escaped, at + 1),
     }
 }

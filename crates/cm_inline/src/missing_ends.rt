@@ -4,13 +4,15 @@
 //! that starts later has an end. For code spans it is where the last backtick string of each length ends,
 //! found in one pass the first time that one is missing. Open tags need no memory: at most three of them are
 //! open at any place, whatever `<` and quotation marks a text has (`tags_reach_thrice` in `cm_scan`).
-ghost use Rattle.std.specs.Prelude.{◌≡◌, ◌+◌, ◌≤◌, ◌∷◌, true, None, nat_lt, IfOk, OnOk, IfSome};
+ghost use Rattle.std.specs.Prelude.{◌≡◌, ◌+◌, ◌*◌, ◌≤◌, ◌∷◌, true, false, None, nat_lt, length, drop, get_or};
+ghost use Rattle.std.specs.Prelude.{IfOk, OnOk, IfSome};
 ghost use Rattle.cm_scan.specs.spans.Reach.{needed, needed_after_mark};
+ghost use Rattle.cm_scan.specs.spans.CodeSpans.{up_to_run};
 ghost use Rattle.cm_inline.specs.steps.Missing.{Starts, missing_from, remembered, AreLast, Knows, NoneFrom};
+ghost use Rattle.cm_inline.specs.steps.Missing.{code_spare};
 
-use cm_scan::after_run;
+use cm_scan::after_backticks;
 use cm_text::{Looks, Rest, Rules};
-use memchr::memchr;
 use std::alloc::{AllocError, Global};
 use std::collections::BTreeMap;
 use std::sync::ledger::Ledger;
@@ -115,10 +117,14 @@ impl MissingEnds {
         }
     }
 
-    /// Whether it is known that no backtick string of this length follows the one that ends at a place.
+    /// Whether it is known that no backtick string of this length follows the one that ends at a place. If
+    /// none follows and that isn't known, nothing is known of backtick strings.
     pub(crate) fn is_last_backticks(&self, source: &str, count: usize, end: usize) -> bool
-        requires { Knows source.now self.now }
+        requires knows { Knows source.now self.now }
+        requires over { get_or source.now end 0 ≡ 96 → ⊥ }
         ensures last { result ≡ true → NoneFrom source.now count end }
+        ensures unknown { result ≡ false → up_to_run count false (drop end source.now) ≡ None
+            → self.now.backticks ≡ None }
     {
         match &self.backticks {
             None => false,
@@ -130,30 +136,39 @@ impl MissingEnds {
     }
 
     /// Looks once where the last backtick strings end.
-    pub(crate) fn look_for_backticks(
+    pub(crate) fn look_for_backticks<L: Ledger>(
         &mut self,
         alloc: Global,
         source: &str,
+        looks: &mut Looks<L>,
     ) -> Result<(), AllocError>
         requires { Knows source.now self.old }
         ensures knows { OnOk result (Knows source.now self.new) }
+        ensures looks { OnOk result (looks.new + code_spare source.now self.new
+            ≤ looks.old + 3 * length source.now) }
     {
         if self.backticks.is_none() {
-            self.backticks = Some(last_backticks(alloc, source)?);
+            self.backticks = Some(last_backticks(alloc, source, looks)?);
         }
         Ok(())
     }
 }
 
 /// The place after the last backtick string of each length.
-fn last_backticks(alloc: Global, source: &str) -> Result<BTreeMap<usize, usize>, AllocError>
+fn last_backticks<L: Ledger>(
+    alloc: Global,
+    source: &str,
+    looks: &mut Looks<L>,
+) -> Result<BTreeMap<usize, usize>, AllocError>
     ensures last { IfOk result (λ last. AreLast source.now last) }
+    ensures looks { OnOk result (looks.new ≤ looks.old + 3 * length source.now) }
 {
+    let text = Rest::of(source.as_bytes());
     let mut last = BTreeMap::new(alloc);
     let mut at = 0;
-    while let Some(plain) = memchr(b'`', &source.as_bytes()[at..]) {
+    while let Some(plain) = text.after(at).find_byte(b'`', looks) {
         let start = at + plain;
-        at = after_run(b'`', source, start);
+        at = after_backticks(&text, start, looks);
         last.insert(at - start, at)?;
     }
     Ok(last)

@@ -6,6 +6,7 @@ ghost use Rattle.cm_scan.specs.laws.SpanLaws.{RawHtmlGoesOn, WholeRawHtmlGoesOn}
 ghost use Rattle.cm_scan.specs.laws.SpanLaws.{AutolinkGoesOn, NoAutolinkGoesOn};
 ghost use Rattle.cm_scan.specs.laws.SpanLaws.{CodeSpanGoesOn, AngledGoesOn};
 ghost use Rattle.cm_scan.specs.laws.SpanLaws.{WholeTagGoesOn, OlderIsRead, NeedsEnd, TagsReachThrice};
+ghost use Rattle.cm_scan.specs.laws.SpanLaws.{AutolinksReachOnce};
 
 /// Raw HTML at the start of a text is the same with anything after the text.
 pub fn raw_html_goes_on()
@@ -46,6 +47,11 @@ pub fn raw_html_needs_its_end()
 /// The tags that start at all places of a text reach over each of its bytes at most three times together.
 pub fn tags_reach_thrice()
     ensures { TagsReachThrice }
+{}
+
+/// The autolinks that start at all places of a text reach over each of its bytes at most once together.
+pub fn autolinks_reach_once()
+    ensures { AutolinksReachOnce }
 {}
 
 /// Worked examples of raw HTML, autolinks and code spans, by computation.

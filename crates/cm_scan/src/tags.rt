@@ -90,7 +90,7 @@ pub(crate) fn first_of(bytes: &[u8]) -> Option<(u8, &[u8])>
 
 /// What is left after the first bytes that pass a test: a look at each of them, and one more.
 #[inline(always)]
-fn skip_passing<'a, L: Ledger, F: Fn(u8) -> bool>(
+pub(crate) fn skip_passing<'a, L: Ledger, F: Fn(u8) -> bool>(
     bytes: &Rest<'a>,
     test: F,
     looks: &mut Looks<L>,

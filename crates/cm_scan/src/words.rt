@@ -1,9 +1,9 @@
 //! Parts of a text, without copying.
-ghost use Rattle.std.specs.Prelude.{◌≡◌, ◌+◌, ◌<◌, ◌≤◌, ℕ, Bool, length, drop};
+ghost use Rattle.std.specs.Prelude.{◌≡◌, ◌+◌, ◌<◌, ◌≤◌, length, drop};
 ghost use Rattle.std.specs.List.{find};
 ghost use Rattle.std.specs.Str.{IsCharBoundary};
 ghost use Rattle.std.specs.Char.{is_ascii_digit};
-ghost use Rattle.cm_scan.specs.Words.{is_space_or_tab, skip, run_length, after_run};
+ghost use Rattle.cm_scan.specs.Words.{is_space_or_tab, run_length, after_run};
 ghost use Rattle.cm_scan.specs.Words.{trim_start, trim_end_by, trim_end};
 ghost use Rattle.cm_scan.specs.Words.{trim_end_spaces, trim, is_blank_text, is_at_gap};
 ghost use Rattle.cm_scan.specs.steps.LineSteps.{is_plain, is_trimmed};
@@ -31,22 +31,6 @@ pub(crate) fn bytes_from(text: &str, at: usize) -> &[u8]
     ensures rest { result.now ≡ drop at text.now }
 {
     &text.as_bytes()[at..]
-}
-
-/// The bytes after the first ones that pass a test.
-#[inline(always)]
-pub(crate) fn skip_while<F: Fn(u8) -> bool>(bytes: &[u8], test: F) -> &[u8]
-    requires { F.IsAlwaysCallable test }
-    ensures skipped { (passes : ℕ → Bool) →
-        ((b : ℕ) (told : Bool) → b < 256 → F.post test b told → told ≡ passes b)
-        → result.now ≡ skip passes bytes.now }
-{
-    for (i, b) in bytes.iter().enumerate() {
-        if !test(*b) {
-            return &bytes[i..];
-        }
-    }
-    &[]
 }
 
 /// The place after the run of a byte at a place, however often the byte is repeated there, or not at all.

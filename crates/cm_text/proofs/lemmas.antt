@@ -20,6 +20,7 @@ pub mod CharacterLemmas
 pub mod IndentationLemmas
 pub mod NameLemmas
 pub mod ReferenceLemmas
+pub mod ReferenceReach
 pub mod UnescapingLemmas
 pub mod SearchLemmas
 pub mod StripLemmas

@@ -18,6 +18,7 @@ pub mod Search
 pub mod Characters
 pub mod NamedReferences
 pub mod References
+pub mod ReferenceReach
 pub mod Unescaping
 pub mod Views
 pub mod TextLines

@@ -6,6 +6,7 @@ ghost use Rattle.cm_text.specs.Cut.{EndedLinesAreCut, LinesAreCut};
 ghost use Rattle.cm_text.specs.Indentation.{StripTakesColumns, StripInParts};
 ghost use Rattle.cm_text.specs.Indentation.{SpacesAreColumns, SpacesAreStripped};
 ghost use Rattle.cm_text.specs.Settled.{SettledIsTold};
+ghost use Rattle.cm_text.specs.ReferenceReach.{ReachExamples, ReferencesReachOnce};
 ghost use Rattle.cm_text.specs.WorkedExamples.{LineExamples, FaultExamples, IndentationExamples};
 ghost use Rattle.cm_text.specs.WorkedExamples.{LabelExamples, CharacterExamples, StripExamples};
 ghost use Rattle.cm_text.specs.WorkedExamples.{ReferenceExamples, UnescapeExamples, LimitExamples};
@@ -56,6 +57,12 @@ pub fn strip_in_parts()
 pub fn spaces_are_columns()
     ensures indentation { SpacesAreColumns }
     ensures stripped { SpacesAreStripped }
+{}
+
+/// The references that start at all places of a text reach over each of its bytes at most once together.
+pub fn references_reach_once()
+    ensures law { ReferencesReachOnce }
+    ensures examples { ReachExamples }
 {}
 
 /// Worked examples over the definitions, by computation.

@@ -6,8 +6,11 @@ ghost use Rattle.std.specs.Prelude.{◌≡◌, ◌+◌, ◌^◌, ◌<◌, ◌≤
 ghost use Rattle.std.specs.Prelude.{IfSome, MatchOption};
 ghost use Rattle.std.specs.Bool.{nat_eq};
 ghost use Rattle.std.specs.List.{prefix_len, starts_with};
+ghost use Rattle.std.specs.Str.{str_eq_ignore_ascii_case};
 ghost use Rattle.memchr.specs.Find.{IsFirstByte, FindsNeedle, is_byte};
+ghost use Rattle.cm_text.specs.Search.{next_place};
 
+use crate::search::{ByteKind, next_of};
 use memchr::{memchr, memmem};
 use std::marker::Model;
 use std::sync::ledger::{Blank, Book, Ledger, Share};
@@ -100,6 +103,17 @@ impl<'a> Rest<'a> {
         }
     }
 
+    /// The given number of bytes from the front: no look.
+    #[inline(always)]
+    pub fn front(&self, count: usize) -> Rest<'a>
+        requires { count ≤ length self.now }
+        ensures { result ≡ take count self.now }
+    {
+        Rest {
+            bytes: &self.bytes[..count],
+        }
+    }
+
     /// The given number of bytes: a look at each.
     #[inline(always)]
     pub fn lend<L: Ledger>(&self, count: usize, looks: &mut Looks<L>) -> &'a [u8]
@@ -156,6 +170,30 @@ impl<'a> Rest<'a> {
         looks.add(at);
         looks.add(1);
         Some(at)
+    }
+
+    /// The first place of a byte of a kind, or the length where there is none: a look at each byte up to
+    /// there, and 16 more, one for each lane.
+    #[inline(always)]
+    pub fn next_of<K: ByteKind, L: Ledger>(&self, looks: &mut Looks<L>) -> usize
+        ensures next { result ≡ next_place K.passes self.now 0 }
+        ensures within { result ≤ length self.now }
+        ensures looks { looks.new ≡ looks.old + result + 16 }
+    {
+        let at = next_of::<K>(self.bytes, 0);
+        looks.add(at);
+        looks.add(16);
+        at
+    }
+
+    /// Whether all of this is a word, in any case of its ASCII letters: a look for each byte of the word.
+    #[inline(always)]
+    pub fn is_in_any_case<L: Ledger>(&self, word: &[u8], looks: &mut Looks<L>) -> bool
+        ensures same { result ≡ str_eq_ignore_ascii_case self.now word.now }
+        ensures looks { looks.new ≡ looks.old + length word.now }
+    {
+        looks.add(word.len());
+        self.bytes.eq_ignore_ascii_case(word)
     }
 
     /// Whether a word comes next: a look for each of its bytes.

@@ -9,11 +9,14 @@ ghost use Rattle.cm_text.specs.Unescaping.{escape, special, unescape};
 
 use crate::characters::is_ascii_punct;
 use crate::device::NoMemory;
-use crate::references::{Chars, reference};
+use crate::references::Chars;
 use crate::search::{ByteKind, next_of};
+use crate::uncounted;
 use std::alloc::{AllocError, Global};
 use std::borrow::CowStr;
+use std::marker::Brand;
 use std::simd::prelude::*;
+use std::sync::ledger::Blank;
 
 /// A backslash, and an ampersand: escapes and references start with one.
 struct Unescaped;
@@ -110,7 +113,7 @@ fn special(text: &[u8]) -> Option<(Chars, usize)>
         };
         return Some((chars, 2));
     }
-    reference(text)
+    uncounted::reference::<Brand>(text, Blank::new(1))
 }
 
 /// The character after a backslash.

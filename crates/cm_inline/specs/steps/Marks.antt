@@ -86,6 +86,10 @@ is_escaped b = b == byte "&" || b == byte "<" || b == byte ">" || b == byte "\""
 abbrev pub is_changed_in_code : ℕ → Bool
 is_changed_in_code b = b == 38 || b == 60 || b == 62 || b == 34 || b == 10 || b == 96
 
+-- a space, or a line feed, which becomes one
+abbrev pub is_space_in_code : ℕ → Bool
+is_space_in_code b = b == 32 || b == 10
+
 -- a byte of the text between marks; if lines are wanted, a line feed has a mark
 abbrev pub stays_text : (lines : Bool) → ℕ → Bool
 stays_text lines b = not (is_escaped b) && not (lines && b == byte "\n")

@@ -1,12 +1,14 @@
 -- Words that are known to be nowhere in the rest of a source.
-use Rattle.std.specs.Prelude.{◌≡◌, ℕ, ◌+◌, ◌<◌, ◌≤◌, nat_lt, Bool, true, false, List, ◌++◌, length, drop, get_or, codes, Option, Some, None, ⊤, if◌then◌else◌}
+use Rattle.std.specs.Prelude.{◌≡◌, ℕ, ◌+◌, ◌*◌, ◌<◌, ◌≤◌, nat_lt, Bool, true, false, List, ◌++◌, length, drop, get_or, codes, Option, Some, None, ⊤, if◌then◌else◌}
 use Rattle.std.specs.Option.{option_map_or}
+use Rattle.std.specs.Str.{byte}
 use Rattle.std.specs.Ordering.{nat_cmp}
 use Rattle.std.specs.BTreeMap.{BTreeMap, get}
 use Rattle.cm_text.specs.Rules.{Rules}
+use Rattle.cm_text.specs.ReferenceReach.{reference_reach}
 use Rattle.std.specs.Char.{is_ascii_alphabetic}
 use Rattle.cm_scan.specs.spans.RawHtml.{beyond_word}
-use Rattle.cm_scan.specs.spans.Reach.{html_reach}
+use Rattle.cm_scan.specs.spans.Reach.{html_reach, link_reach}
 use Rattle.cm_scan.specs.spans.CodeSpans.{up_to_run}
 use Rattle.cm_inline.specs.declared.missing_ends.Form.{Form}
 use Rattle.cm_inline.specs.declared.missing_ends.Form.TheVariants.{Comment, Instruction, CharacterData, Declaration}
@@ -55,9 +57,16 @@ remembered Declaration at ends = record { comment = ends.comment; instruction = 
 abbrev pub after_last : BTreeMap ℕ ℕ → ℕ → ℕ
 after_last last count = option_map_or (λ end. end) (get nat_cmp last count) 0
 
--- no backtick string of a length follows the last one of that length
-abbrev pub AreLast : List ℕ → BTreeMap ℕ ℕ → Type 0
-AreLast source last = (count : ℕ) → up_to_run count false (drop (after_last last count) source) ≡ None
+-- a backtick string of a length follows each place before this one that has no backtick
+abbrev pub FollowsUpTo : List ℕ → ℕ → ℕ → Type 0
+FollowsUpTo source count end =
+    (from : ℕ) → from < end → (get_or source from 0 ≡ byte "`" → ⊥) → up_to_run count false (drop from source) ≡ None → ⊥
+
+-- The last backtick string of each length ends where the map says: none of its length follows that place, and one
+-- follows each place before.
+pub record AreLast (source : List ℕ) (last : BTreeMap ℕ ℕ) : Type 0 where
+  pub none : (count : ℕ) → up_to_run count false (drop (after_last last count) source) ≡ None
+  pub some : (count end : ℕ) → get nat_cmp last count ≡ Some end → FollowsUpTo source count end
 
 abbrev pub AreLastIfKnown : List ℕ → Option (BTreeMap ℕ ℕ) → Type 0
 AreLastIfKnown source None = ⊤
@@ -86,6 +95,18 @@ spare source ends =
     spare_from ends.comment (length source) + spare_from ends.instruction (length source) + spare_from ends.character_data (length source)
     + spare_from ends.declaration (length source)
 
+-- the search in vain for the end of a code span, and that for the last backtick strings, as long as none was made
+abbrev pub code_spare : List ℕ → MissingEnds → ℕ
+code_spare source ends = elim ends.backticks as (λ _. ℕ) [ None ↦ 21 * length source + 16 | Some last ↦ 0 ]
+
+-- what an autolink at a place looks at
+abbrev pub link_room : List ℕ → ℕ → ℕ
+link_room source at = 7 * link_reach (drop (at + 1) source) + 33
+
 -- what raw HTML at a place looks at besides
 abbrev pub html_room : Rules → List ℕ → ℕ → ℕ
 html_room rules source at = 11 + html_reach rules.older (drop at source)
+
+-- what a reference at a place looks at
+abbrev pub reference_room : List ℕ → ℕ → ℕ
+reference_room source at = 2 * reference_reach (drop (at + 1) source) + 2

@@ -7,9 +7,12 @@ pub mod RawHtmlNeedsItsEnd
 pub mod OlderRawHtml
 pub mod AutolinkGoesOn
 pub mod AutolinkParts
+pub mod AutolinkPlaces
+pub mod AutolinkReach
 pub mod FollowedAutolinks
 pub mod CodeSpanGoesOn
 pub mod BacktickStrings
+pub mod BacktickRuns
 pub mod AngledGoesOn
 pub mod ReachLemmas
 pub mod RawHtmlLacksItsEnd

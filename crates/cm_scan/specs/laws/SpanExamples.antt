@@ -4,7 +4,7 @@ use Rattle.cm_text.specs.Rules.{profile, older_rules}
 use Rattle.cm_scan.specs.spans.RawHtml.{raw_html}
 use Rattle.cm_scan.specs.spans.Autolinks.{autolink}
 use Rattle.cm_scan.specs.spans.CodeSpans.{code_span}
-use Rattle.cm_scan.specs.spans.Reach.{html_reach, needed}
+use Rattle.cm_scan.specs.spans.Reach.{html_reach, needed, link_reach, link_reaches}
 
 -- by the rules that hold, and by the older ones
 abbrev pub Leaves : List ℕ → List ℕ → Type 0
@@ -99,3 +99,7 @@ pub record ReachExamples : Type 0 where
   pub declaration : needed false (codes "<!a b") ≡ 2
   pub no_declaration : needed false (codes "<!1 b") ≡ 0
   pub tag : needed false (codes "<a b") ≡ 0
+  pub autolink : link_reach (codes "a:b>c") ≡ 4
+  pub space_in_an_autolink : link_reach (codes "a:b c>") ≡ 4
+  pub next_autolink : link_reach (codes "a<b:c>") ≡ 2
+  pub autolinks : link_reaches (codes "a <b:c> <d<e:f") ≡ 4 + 2 + 4

@@ -6,7 +6,7 @@ use Rattle.cm_scan.specs.inlines.Links.{Reading}
 use Rattle.cm_scan.specs.spans.RawHtml.{beyond_word, raw_html}
 use Rattle.cm_scan.specs.spans.Autolinks.{Autolink, autolink}
 use Rattle.cm_scan.specs.spans.CodeSpans.{code_span}
-use Rattle.cm_scan.specs.spans.Reach.{tag_reaches}
+use Rattle.cm_scan.specs.spans.Reach.{tag_reaches, link_reaches}
 use Rattle.cm_scan.specs.spans.Angles.{Angled, Addressed, Tagged, at_angle}
 
 -- Raw HTML at the start of a text is the same with more after the text.
@@ -62,3 +62,7 @@ NeedsEnd start end = (rules : Rules) (beyond : List ℕ) → beyond_word end (st
 -- Tags reach over each byte at most three times, wherever they start: one outside of quotation marks, and one in each kind of them.
 abbrev pub TagsReachThrice : Type 0
 TagsReachThrice = (text : List ℕ) → tag_reaches text ≤ 3 * length text
+
+-- Autolinks reach over each byte at most once, wherever they start: an autolink ends where the next one starts.
+abbrev pub AutolinksReachOnce : Type 0
+AutolinksReachOnce = (text : List ℕ) → link_reaches text ≤ length text

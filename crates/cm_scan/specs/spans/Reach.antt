@@ -1,9 +1,20 @@
--- How many bytes raw HTML may look at, by cases on the bytes.
+-- How many bytes raw HTML and autolinks may look at, by cases on the bytes.
 use Rattle.std.specs.Prelude.{ℕ, suc, ◌+◌, ◌*◌, ◌-◌, ◌==◌, ◌||◌, Bool, true, false, List, [], ◌∷◌, length, Some, None, codes, if◌then◌else◌}
 use Rattle.std.specs.Str.{byte}
 use Rattle.std.specs.Char.{is_ascii_alphabetic}
 use Rattle.cm_scan.specs.Words.{after_word}
 use Rattle.cm_scan.specs.spans.RawHtml.{beyond_word}
+use Rattle.cm_scan.specs.spans.Autolinks.{is_inside}
+
+-- After its `<`, an autolink looks up to the first byte that is in none.
+unfoldable pub link_reach : List ℕ → ℕ
+link_reach [] = 1
+link_reach (b ∷ bs) = if is_inside b then suc (link_reach bs) else 1
+
+-- how far the autolinks reach together that start at each `<`
+unfoldable pub link_reaches : List ℕ → ℕ
+link_reaches [] = 0
+link_reaches (b ∷ bs) = (if b == byte "<" then link_reach bs else 0) + link_reaches bs
 
 -- A tag looks up to the first `<` or `>` outside of quotation marks. `quote` is the quotation mark that is open, or 0.
 unfoldable pub tag_reach : (quote : ℕ) → List ℕ → ℕ

@@ -1,8 +1,10 @@
 -- Where a scheme ends.
-use Rattle.std.proofs.Common.{◌≡◌, ℕ, Bool, true, false, ◌||◌, ◌==◌, Option, Some, None, List, [], ◌∷◌, get_or, length, ◌≤◌, take, subst, refl, arith}
-use Rattle.std.specs.List.{position, position_or_len}
+use Rattle.std.proofs.Common.{◌≡◌, ℕ, ◌+◌, ◌-◌, ◌≤◌, Bool, true, false, not, ◌||◌, ◌==◌, Option, Some, None, List, [], ◌∷◌, get_or, length, take, drop, refl, sym, ap, ◌∙◌, arith, length-drop}
+use Rattle.std.specs.List.{position_or_len, prefix_len}
+use Rattle.std.proofs.lemmas.Bool.Decides.{nat_tests}
+use Rattle.std.proofs.lemmas.List.Sums.{prefix_len-le-length}
 use Rattle.std.specs.Option.{option_map}
-use Rattle.std.proofs.lemmas.List.{get_or_past}
+use Rattle.std.proofs.lemmas.List.{get_or_past, get_or-drop}
 use Rattle.cm_text.specs.Addresses.{begins_a_part, address_scheme}
 
 abbrev pub ends_scheme : ℕ → Bool
@@ -25,13 +27,23 @@ scheme-before (b ∷ bs) = at-end (scheme-before bs) (b == 58) (begins_a_part b)
     at-end more false true e f = grind (arith, e, f)
     at-end more false false e f = grind (arith, e, f, more, onto (get_or bs (position_or_len ends_scheme bs) 0 == 58) (take (position_or_len ends_scheme bs) bs))
 
-pub scheme-found : (bs : List ℕ) (at : ℕ) → position ends_scheme bs ≡ Some at → address_scheme bs ≡ scheme_before at bs
-scheme-found bs at found =
-    let place : position_or_len ends_scheme bs ≡ at = grind (arith, found) in
-    subst (λ n. address_scheme bs ≡ scheme_before n bs) place (scheme-before bs)
+-- the scheme, by what is left after the bytes that continue one
+module _ (bs rest : List ℕ) (left : rest ≡ drop (prefix_len (λ b. not (ends_scheme b)) bs) bs) where
+  count : length bs - length rest ≡ position_or_len ends_scheme bs
+  count = omega (arith, ap length left, length-drop (position_or_len ends_scheme bs) bs, prefix_len-le-length (λ b. not (ends_scheme b)) bs)
 
-pub scheme-none : (bs : List ℕ) → position ends_scheme bs ≡ None → address_scheme bs ≡ None
-scheme-none bs none = beyond (position_or_len ends_scheme bs) (grind (arith, none)) (scheme-before bs)
-  where
-    beyond : (n : ℕ) → length bs ≤ n → address_scheme bs ≡ scheme_before n bs → address_scheme bs ≡ None
-    beyond n long h = grind (arith, get_or_past bs n 0 long, h)
+  next : (b : ℕ) (beyond : List ℕ) → rest ≡ b ∷ beyond → get_or bs (position_or_len ends_scheme bs) 0 ≡ b
+  next b beyond is =
+      let place : position_or_len ends_scheme bs + 0 ≡ position_or_len ends_scheme bs = omega arith in
+      ap (λ n. get_or bs n 0) (sym place) ∙ sym (get_or-drop (position_or_len ends_scheme bs) bs 0 0) ∙ ap (λ t. get_or t 0 0) (sym left ∙ is)
+
+  pub scheme-found : (beyond : List ℕ) → rest ≡ 58 ∷ beyond → address_scheme bs ≡ Some (take (length bs - length rest) bs)
+  scheme-found beyond is = scheme-before bs ∙ grind (arith, next 58 beyond is, count)
+
+  pub scheme-other : (b : ℕ) (beyond : List ℕ) → rest ≡ b ∷ beyond → (b ≡ 58 → ⊥) → address_scheme bs ≡ None
+  scheme-other b beyond is other = scheme-before bs ∙ grind (arith, nat_tests, next b beyond is, other)
+
+  pub scheme-none : rest ≡ [] → address_scheme bs ≡ None
+  scheme-none is =
+      let past : length bs ≤ position_or_len ends_scheme bs = omega (arith, count, ap length is) in
+      scheme-before bs ∙ grind (arith, get_or_past bs (position_or_len ends_scheme bs) 0 past)

@@ -1,40 +1,51 @@
-use Rattle.std.proofs.Common.{◌≡◌, ◌+◌, ◌∙◌, drop, ap, subst, arith}
-use Rattle.std.specs.List.{slice_range}
-use Rattle.cm_scan.specs.Words.{begins_with, skip, front_of}
-use Rattle.cm_scan.specs.spans.Autolinks.{is_inside}
-use Rattle.cm_scan.proofs.lemmas.spans.AutolinkParts.{angles-not_next, angles-open, angles-some, next-ascii}
+use Rattle.std.proofs.Common.{◌∙◌, ℕ, List, Option, Some, option_map, drop, length, length-take-le, ap, sym, arith}
+use Rattle.cm_scan.specs.spans.Reach.{link_reach}
+use Rattle.cm_scan.proofs.lemmas.spans.AutolinkParts.{angles-nothing, angles-other, angles-ended, angles-open, angles-some}
+use Rattle.cm_scan.proofs.lemmas.spans.AutolinkReach.{reach-inside}
 use Rattle.cm_scan.proofs.autolinks.in_angles.Goals as goal
 
-pub returns-then-not-is_next-clause-read : goal.returns-then-not-is_next-clause-read
-returns-then-not-is_next-clause-read c =
-    angles-not_next c.args.text.now c.args.at c.is_next.result (c.is_next.ensures.next ∙ ap (λ t. begins_with 60 (drop c.args.at t)) c.as_bytes-bytes.ensures.value) c.if-not-is_next.true
+pub returns-in_err-b-clause-read : goal.returns-in_err-b-clause-read
+returns-in_err-b-clause-read g c =
+    ap (λ (o : Option (List ℕ × List ℕ)). option_map (λ r. record { text = r.0; rest = r.1 }) o) c.from_residual.ensures ∙ angles-nothing c.args.text.now c.in_err-b.ensures.read
 
-pub returns-then-not-is_next-2-clause-read : goal.returns-then-not-is_next-2-clause-read
-returns-then-not-is_next-2-clause-read c =
-    let at = c.args.at in
-    let end = c.after_inside-end.result in
-    let same = c.as_bytes-bytes.ensures.value in
-    let skipped : drop end c.args.text.now ≡ skip is_inside (drop (at + 1) c.args.text.now) = subst (λ t. drop end t ≡ skip is_inside (drop (at + 1) t)) same c.after_inside-end.ensures.skipped in
-    angles-open c.args.text.now at end c.is_next.result c.is_next-2.result (c.is_next.ensures.next ∙ ap (λ t. begins_with 60 (drop at t)) same) c.if-not-is_next.false
-    skipped (c.is_next-2.ensures.next ∙ ap (λ t. begins_with 62 (drop end t)) same) c.if-not-is_next-2.true
+pub returns-then-b-ne60-clause-read : goal.returns-then-b-ne60-clause-read
+returns-then-b-ne60-clause-read g c = angles-other c.args.text.now c.in_ok-b.b c.in_ok-b.inside c.in_ok-b.ensures.read c.if-b-ne60.true
 
-pub range-requires-clause-start_boundary : goal.range-requires-clause-start_boundary
-range-requires-clause-start_boundary c = λ _.
-    next-ascii 60 c.args.text.now c.args.at c.is_next.result c.utf8.text (omega arith) (c.is_next.ensures.next ∙ ap (λ t. begins_with 60 (drop c.args.at t)) c.as_bytes-bytes.ensures.value)
-    c.if-not-is_next.false
+pub returns-in_err-c-clause-read : goal.returns-in_err-c-clause-read
+returns-in_err-c-clause-read g c =
+    ap (λ (o : Option (List ℕ × List ℕ)). option_map (λ r. record { text = r.0; rest = r.1 }) o) c.from_residual-in_err-c.ensures
+    ∙ angles-ended c.args.text.now c.in_ok-b.b c.in_ok-b.inside c.in_ok-b.ensures.read c.if-b-ne60.false c.next_of-len.result c.next_of-len.ensures.next (sym c.after.ensures ∙ c.in_err-c.ensures.read)
+
+pub returns-then-c-ne62-clause-read : goal.returns-then-c-ne62-clause-read
+returns-then-c-ne62-clause-read g c =
+    angles-open c.args.text.now c.in_ok-b.b c.in_ok-b.inside c.in_ok-b.ensures.read c.if-b-ne60.false c.next_of-len.result c.next_of-len.ensures.next c.in_ok-c.c c.in_ok-c.rest (sym c.after.ensures ∙ c.in_ok-c.ensures.read) c.if-c-ne62.true
 
 pub returns-clause-read : goal.returns-clause-read
-returns-clause-read c =
-    let at = c.args.at in
-    let end = c.after_inside-end.result in
-    let same = c.as_bytes-bytes.ensures.value in
-    let skipped : drop end c.args.text.now ≡ skip is_inside (drop (at + 1) c.args.text.now) = subst (λ t. drop end t ≡ skip is_inside (drop (at + 1) t)) same c.after_inside-end.ensures.skipped in
-    let front : slice_range c.args.text.now (at + 1) end ≡ front_of is_inside (drop (at + 1) c.args.text.now)
-    = subst (λ t. slice_range t (at + 1) end ≡ front_of is_inside (drop (at + 1) t)) same c.after_inside-end.ensures.front in
-    angles-some c.args.text.now c.range.result.now at end c.is_next.result c.is_next-2.result (c.is_next.ensures.next ∙ ap (λ t. begins_with 60 (drop at t)) same) c.if-not-is_next.false
-    skipped front (c.is_next-2.ensures.next ∙ ap (λ t. begins_with 62 (drop end t)) same) c.if-not-is_next-2.false c.range.ensures.value
+returns-clause-read g c =
+    let rest = c.in_ok-c.rest in
+    ap (λ t. Some (record { text = t; rest = rest })) c.front.ensures
+    ∙ angles-some c.args.text.now c.in_ok-b.b c.in_ok-b.inside c.in_ok-b.ensures.read c.if-b-ne60.false c.next_of-len.result c.next_of-len.ensures.next c.in_ok-c.c rest (sym c.after.ensures ∙ c.in_ok-c.ensures.read) c.if-c-ne62.false
 
-pub returns-clause-boundary : goal.returns-clause-boundary
-returns-clause-boundary c =
-    next-ascii 62 c.args.text.now c.after_inside-end.result c.is_next-2.result c.utf8.text (omega arith)
-    (c.is_next-2.ensures.next ∙ ap (λ t. begins_with 62 (drop c.after_inside-end.result t)) c.as_bytes-bytes.ensures.value) c.if-not-is_next-2.false
+pub returns-in_err-c-clause-looks : goal.returns-in_err-c-clause-looks
+returns-in_err-c-clause-looks g c =
+    let whole = ap (λ t. link_reach (drop 1 t)) c.in_ok-b.ensures.read in
+    let inside = reach-inside c.in_ok-b.inside c.next_of-len.result c.next_of-len.ensures.next in
+    omega (arith, whole, inside, c.first.ensures.looks, c.next_of-len.ensures.looks, c.first-2.ensures.looks)
+
+pub returns-then-c-ne62-clause-looks : goal.returns-then-c-ne62-clause-looks
+returns-then-c-ne62-clause-looks g c =
+    let whole = ap (λ t. link_reach (drop 1 t)) c.in_ok-b.ensures.read in
+    let inside = reach-inside c.in_ok-b.inside c.next_of-len.result c.next_of-len.ensures.next in
+    omega (arith, whole, inside, c.first.ensures.looks, c.next_of-len.ensures.looks, c.first-2.ensures.looks)
+
+pub returns-clause-looks : goal.returns-clause-looks
+returns-clause-looks g c =
+    let whole = ap (λ t. link_reach (drop 1 t)) c.in_ok-b.ensures.read in
+    let inside = reach-inside c.in_ok-b.inside c.next_of-len.result c.next_of-len.ensures.next in
+    omega (arith, whole, inside, c.first.ensures.looks, c.next_of-len.ensures.looks, c.first-2.ensures.looks)
+
+pub returns-clause-inside : goal.returns-clause-inside
+returns-clause-inside g c =
+    let whole = ap (λ t. link_reach (drop 1 t)) c.in_ok-b.ensures.read in
+    let inside = reach-inside c.in_ok-b.inside c.next_of-len.result c.next_of-len.ensures.next in
+    omega (arith, whole, inside, ap length c.front.ensures, length-take-le c.next_of-len.result c.in_ok-b.inside c.next_of-len.ensures.within)

@@ -4,14 +4,12 @@ use Rattle.cm_text.specs.Addresses.{is_followed}
 use Rattle.cm_scan.proofs.lemmas.spans.FollowedAutolinks.{mail-followed}
 use Rattle.cm_scan.proofs.autolinks.leads_on.Goals as goal
 
-pub returns-then-is_address : goal.returns-then-is_address
-returns-then-is_address c = record {
-  followed = λ rest. let text = c.args.text.now in
-      c.if-is_address.true ∙ sym (ap (λ (t : Bool). is_followed c.args.rules (if t then codes "mailto:" ++ text else text)) c.if-is_address.true ∙ mail-followed c.args.rules text);
-}
+pub returns-then-is_address-clause-followed : goal.returns-then-is_address-clause-followed
+returns-then-is_address-clause-followed g c = λ rest.
+    let text = c.args.text.now in
+    c.if-is_address.true ∙ sym (ap (λ (t : Bool). is_followed c.args.rules (if t then codes "mailto:" ++ text else text)) c.if-is_address.true ∙ mail-followed c.args.rules text)
 
-pub returns-else-is_address : goal.returns-else-is_address
-returns-else-is_address c = record {
-  followed = λ rest. let text = c.args.text.now in
-      c.is_followed.ensures.followed ∙ sym (ap (λ (t : Bool). is_followed c.args.rules (if t then codes "mailto:" ++ text else text)) c.if-is_address.false);
-}
+pub returns-else-is_address-clause-followed : goal.returns-else-is_address-clause-followed
+returns-else-is_address-clause-followed g c = λ rest.
+    let text = c.args.text.now in
+    c.follows.ensures.followed ∙ sym (ap (λ (t : Bool). is_followed c.args.rules (if t then codes "mailto:" ++ text else text)) c.if-is_address.false)

@@ -1,33 +1,42 @@
-use Rattle.std.proofs.Common.{◌∙◌, sym, arith}
-use Rattle.cm_scan.proofs.lemmas.spans.BacktickStrings.{found-at, nowhere, further, past-run, at-run, no-run-left}
+use Rattle.std.proofs.Common.{◌≡◌, ◌+◌, ◌-◌, ◌<◌, ◌≤◌, ℕ, List, Option, Some, None, IfSome, false, length, drop, get_or, ap, subst, arith}
+use Rattle.std.specs.Prelude.{IsUtf8}
+use Rattle.std.specs.Str.{IsCharBoundary}
+use Rattle.std.proofs.lemmas.Str.{IsCharBoundary-after_ascii, IsCharBoundary-before_ascii}
+use Rattle.cm_scan.specs.spans.CodeSpans.{up_to_run}
+use Rattle.cm_scan.specs.steps.SpanSteps.{run_at}
+use Rattle.cm_scan.proofs.lemmas.spans.ReachLemmas.{map_some}
 use Rattle.cm_scan.proofs.code_spans.next_run.Goals as goal
 
-pub returns-then-at-start-clause-read : goal.returns-then-at-start-clause-read
-returns-then-at-start-clause-read c =
-    let text = c.args.text.now in
-    let found = found-at text c.bytes_from.result.now c.loop-plain.at c.in-Some.plain c.bytes_from.ensures.rest c.loop-plain.invariant.within.1 c.in-Some.ensures.found in
-    at-run c.args.count text c.args.from c.loop-plain.at c.in-Some.plain c.loop-plain.invariant.within.0 found c.after_run-at.result c.after_run-at.ensures.end c.after_run-at.ensures.beyond c.if-at-start.true
-    ∙ c.loop-plain.invariant.read
+-- a run lies in a text, and its first and last bytes are backticks
+abbrev Lies : List ℕ → ℕ → ℕ × ℕ → Type 0
+Lies text from run = (from ≤ run.0) × (run.0 < run.1) × (run.1 ≤ length text)
 
-pub loop-plain-smaller : goal.loop-plain-smaller
-loop-plain-smaller c =
-    let text = c.args.text.now in
-    let found = found-at text c.bytes_from.result.now c.loop-plain.at c.in-Some.plain c.bytes_from.ensures.rest c.loop-plain.invariant.within.1 c.in-Some.ensures.found in
-    let more = further c.args.count text c.args.from c.loop-plain.at c.in-Some.plain c.loop-plain.invariant.within.0 found c.after_run-at.result c.after_run-at.ensures.end c.after_run-at.ensures.beyond in
-    omega (arith, more, c.after_run-at.ensures.within)
+abbrev IsTicked : List ℕ → ℕ × ℕ → Type 0
+IsTicked text run = (get_or text run.0 0 ≡ 96) × (get_or text (run.1 - 1) 0 ≡ 96)
 
-pub loop-plain-preserved : goal.loop-plain-preserved
-loop-plain-preserved c =
-    let text = c.args.text.now in
-    let found = found-at text c.bytes_from.result.now c.loop-plain.at c.in-Some.plain c.bytes_from.ensures.rest c.loop-plain.invariant.within.1 c.in-Some.ensures.found in
-    let more = further c.args.count text c.args.from c.loop-plain.at c.in-Some.plain c.loop-plain.invariant.within.0 found c.after_run-at.result c.after_run-at.ensures.end c.after_run-at.ensures.beyond in
-    record {
-      read = past-run c.args.count text c.args.from c.loop-plain.at c.in-Some.plain c.loop-plain.invariant.within.0 found c.after_run-at.result c.after_run-at.ensures.end c.after_run-at.ensures.beyond
-          c.if-at-start.false ∙ c.loop-plain.invariant.read;
-      within = (omega (arith, more, c.loop-plain.invariant.within.0), c.after_run-at.ensures.within);
-    }
+bounded : (text : List ℕ) (from : ℕ) (run : ℕ × ℕ) → IsUtf8 text → Lies text from run → IsTicked text run → IsCharBoundary text run.0 × IsCharBoundary text run.1
+bounded text from run utf8 lies ticked =
+    let last : run.1 - 1 + 1 ≡ run.1 = omega (arith, lies.1) in (
+      IsCharBoundary-before_ascii text run.0 (omega (arith, lies.1, lies.2)) (omega (arith, ticked.0)),
+      subst (IsCharBoundary text) last (IsCharBoundary-after_ascii text (run.1 - 1) utf8 (omega (arith, lies.1, lies.2)) (omega (arith, ticked.1))),
+    )
+
+both : (text : List ℕ) (from : ℕ) (found : Option (ℕ × ℕ)) → IsUtf8 text → IfSome found (Lies text from) → IfSome found (IsTicked text) → IfSome found (λ run. IsCharBoundary text run.0 × IsCharBoundary text run.1)
+both text from None utf8 lies ticked = tt
+both text from (Some run) utf8 lies ticked = bounded text from run utf8 lies ticked
 
 pub returns-clause-read : goal.returns-clause-read
 returns-clause-read c =
-    let text = c.args.text.now in
-    sym (no-run-left c.args.count text c.args.from c.loop-plain.at (nowhere text c.bytes_from.result.now c.loop-plain.at c.bytes_from.ensures.rest c.in_default.ensures.found)) ∙ c.loop-plain.invariant.read
+    let found = c.next_backticks.result in
+    subst (λ t. run_at t c.args.from found ≡ up_to_run c.args.count false (drop c.args.from t)) c.bytes_from.ensures.rest c.next_backticks.ensures.read
+
+pub returns-clause-within : goal.returns-clause-within
+returns-clause-within c =
+    map_some c.next_backticks.result (Lies c.bytes_from.result.now c.args.from) (λ run. (c.args.from ≤ run.0) × (run.0 ≤ run.1) × (run.1 ≤ length c.args.text.now)) c.next_backticks.ensures.within
+    (λ run lies. (lies.0, omega (arith, lies.1), omega (arith, lies.2, ap length c.bytes_from.ensures.rest)))
+
+pub returns-clause-boundary : goal.returns-clause-boundary
+returns-clause-boundary c =
+    let found = c.next_backticks.result in
+    let same = c.bytes_from.ensures.rest in
+    both c.args.text.now c.args.from found c.utf8.text (subst (λ t. IfSome found (Lies t c.args.from)) same c.next_backticks.ensures.within) (subst (λ t. IfSome found (IsTicked t)) same c.next_backticks.ensures.backticks)

@@ -1,14 +1,15 @@
 -- Autolinks in a text, part by part.
-use Rattle.std.proofs.Common.{◌≡◌, ℕ, zero, suc, ◌+◌, ◌-◌, ◌<◌, ◌≤◌, ◌==◌, ◌&&◌, ◌||◌, not, Bool, true, false, List, [], ◌∷◌, ◌++◌, length, take, drop, get_or, Option, Some, None, codes, IsUtf8, refl, sym, ap, ◌∙◌, arith, add-one, append_assoc, drop-cons, length-take-le}
-use Rattle.std.specs.List.{slice_range, onto_first, list_all, position_or_len}
+use Rattle.std.proofs.Common.{◌≡◌, ℕ, zero, suc, ◌+◌, ◌-◌, ◌<◌, ◌≤◌, ◌==◌, ◌&&◌, ◌||◌, not, Bool, true, false, List, [], ◌∷◌, length, take, drop, get_or, Option, Some, None, codes, IsUtf8, refl, sym, ap, ◌∙◌, arith, add-one, length-take-le}
+use Rattle.std.specs.List.{onto_first, list_all, position_or_len}
 use Rattle.std.specs.Prelude.{cond}
-use Rattle.std.proofs.Common.{drop-drop, length-drop}
+use Rattle.std.proofs.Common.{length-drop}
 use Rattle.std.proofs.lemmas.List.Sums.{prefix_len-le-length, fails_before_first}
 use Rattle.cm_text.specs.Search.{next_place}
+use Rattle.cm_text.proofs.lemmas.SearchLemmas.{from_the_front}
 use Rattle.std.specs.Str.{IsCharBoundary}
 use Rattle.std.specs.Int.{is_in_range}
 use Rattle.std.specs.Char.{is_ascii_alphabetic}
-use Rattle.std.proofs.lemmas.List.{append-nil, drop_all, get_or-drop}
+use Rattle.std.proofs.lemmas.List.{get_or-drop}
 use Rattle.std.proofs.lemmas.Bool.Decides.{nat_tests}
 use Rattle.std.proofs.lemmas.Str.{IsCharBoundary-after_ascii}
 use Rattle.memchr.specs.Find.{IsFirstByte, is_byte}
@@ -18,7 +19,6 @@ use Rattle.cm_scan.specs.spans.Autolinks.{Autolink, is_inside, in_angles, contin
 use Rattle.cm_scan.specs.Scanned.{autolink_with}
 use Rattle.cm_scan.specs.steps.SpanSteps.{is_host_byte, labels, ended}
 use Rattle.cm_scan.proofs.lemmas.texts.ScannerAnswers.{begins-at}
-use Rattle.cm_scan.proofs.lemmas.links.BracketedParts.{slice-none, slice-more}
 use Rattle.cm_scan.proofs.lemmas.spans.TagParts.{skip_shorter, front-is}
 
 is-false : (b : Bool) → (b ≡ true → ⊥) → b ≡ false
@@ -28,42 +28,6 @@ is-false false h = refl
 -- bytes at the start that pass a test, one after another
 
 module _ (test : ℕ → Bool) where
-  front-pass : (b : ℕ) (bs : List ℕ) → test b ≡ true → front_of test (b ∷ bs) ≡ b ∷ front_of test bs
-  unfolding front_of
-  front-pass b bs h = ap (λ c. elim c as (λ _. List ℕ) [ true ↦ b ∷ front_of test bs | false ↦ [] ]) h
-
-  front-fail : (b : ℕ) (bs : List ℕ) → test b ≡ false → front_of test (b ∷ bs) ≡ []
-  unfolding front_of
-  front-fail b bs h = ap (λ c. elim c as (λ _. List ℕ) [ true ↦ b ∷ front_of test bs | false ↦ [] ]) h
-
-  front-nothing : front_of test [] ≡ []
-  unfolding front_of
-  front-nothing = refl
-
-  pub front-step : (text : List ℕ) (from at : ℕ) → from ≤ at → at < length text → test (get_or text at 0) ≡ true
-      → slice_range text from (at + 1) ++ front_of test (drop (at + 1) text) ≡ slice_range text from at ++ front_of test (drop at text)
-  front-step text from at low high h =
-      let b = get_or text at 0 in
-      rw (add-one)
-      (ap (λ t. t ++ front_of test (drop (suc at) text)) (slice-more text from at low high)
-      ∙ append_assoc (slice_range text from at) (b ∷ []) (front_of test (drop (suc at) text))
-      ∙ ap (λ t. slice_range text from at ++ t) (sym (front-pass b (drop (suc at) text) h))
-      ∙ ap (λ t. slice_range text from at ++ front_of test t) (sym (drop-cons text at 0 high)))
-
-  pub front-stop : (text : List ℕ) (from at : ℕ) → at < length text → test (get_or text at 0) ≡ false
-      → slice_range text from at ≡ slice_range text from at ++ front_of test (drop at text)
-  front-stop text from at high h =
-      sym (ap (λ t. slice_range text from at ++ front_of test t) (drop-cons text at 0 high)
-      ∙ ap (λ t. slice_range text from at ++ t) (front-fail (get_or text at 0) (drop (suc at) text) h) ∙ append-nil (slice_range text from at))
-
-  pub front-end : (text : List ℕ) (from at : ℕ) → length text ≤ at → slice_range text from at ≡ slice_range text from at ++ front_of test (drop at text)
-  front-end text from at past =
-      sym (ap (λ t. slice_range text from at ++ front_of test t) (drop_all at text past)
-      ∙ ap (λ t. slice_range text from at ++ t) front-nothing ∙ append-nil (slice_range text from at))
-
-  pub front-here : (text : List ℕ) (from : ℕ) → slice_range text from from ++ front_of test (drop from text) ≡ front_of test (drop from text)
-  front-here text from = ap (λ t. t ++ front_of test (drop from text)) (slice-none text from)
-
   -- there are some where something is left off
   pub front-some : (bs : List ℕ) → (length (skip test bs) ≡ length bs → ⊥) → is_empty (front_of test bs) ≡ false
   unfolding skip front_of
@@ -105,28 +69,54 @@ end-here : (bs : List ℕ) → after_word (codes ">") (62 ∷ bs) ≡ Some bs
 unfolding after_word
 end-here bs = refl
 
-pub angles-not_next : (text : List ℕ) (at : ℕ) (next : Bool) → next ≡ begins_with 60 (drop at text) → next ≡ false → None ≡ in_angles (drop at text)
-angles-not_next text at next e h = sym (no-angle (drop at text) (sym e ∙ h))
+-- the first byte outside of what passes
+outside-is : (test : ℕ → Bool) (text : List ℕ) → (take (position_or_len (λ b. not (test b)) text) text ≡ front_of test text) × (drop (position_or_len (λ b. not (test b)) text) text ≡ skip test text)
+unfolding front_of skip
+outside-is test [] = (refl, refl)
+outside-is test (b ∷ bs) = go (test b) (outside-is test bs)
+  where
+    go : (v : Bool) → (take (position_or_len (λ c. not (test c)) bs) bs ≡ front_of test bs) × (drop (position_or_len (λ c. not (test c)) bs) bs ≡ skip test bs)
+        → (take (cond (not (not v)) (1 + position_or_len (λ c. not (test c)) bs) 0) (b ∷ bs) ≡ elim v [ true ↦ b ∷ front_of test bs | false ↦ [] ])
+        × (drop (cond (not (not v)) (1 + position_or_len (λ c. not (test c)) bs) 0) (b ∷ bs) ≡ elim v [ true ↦ skip test bs | false ↦ b ∷ bs ])
+    go true rest =
+        let one : 1 + position_or_len (λ c. not (test c)) bs ≡ suc (position_or_len (λ c. not (test c)) bs) = omega arith in
+        (ap (λ k. take k (b ∷ bs)) one ∙ ap (λ t. b ∷ t) rest.0, ap (λ k. drop k (b ∷ bs)) one ∙ rest.1)
+    go false rest = (refl, refl)
 
-angles-at : (text : List ℕ) (at : ℕ) (next : Bool) → next ≡ begins_with 60 (drop at text) → next ≡ true
-    → in_angles (drop at text) ≡ ended (front_of is_inside (drop (at + 1) text)) (after_word (codes ">") (skip is_inside (drop (at + 1) text)))
-angles-at text at next e h = rw (add-one) (ap in_angles (begins-at 60 text at (sym e ∙ h)).1 ∙ angle (drop (suc at) text))
+module _ (text : List ℕ) where
+  pub angles-nothing : text ≡ [] → None ≡ in_angles text
+  angles-nothing is = sym (ap in_angles is ∙ no-angle [] refl)
 
-pub angles-open : (text : List ℕ) (at end : ℕ) (next last : Bool) → next ≡ begins_with 60 (drop at text) → next ≡ true
-    → drop end text ≡ skip is_inside (drop (at + 1) text) → last ≡ begins_with 62 (drop end text) → last ≡ false → None ≡ in_angles (drop at text)
-angles-open text at end next last e h skipped f k =
-    sym (angles-at text at next e h ∙ ap (λ t. ended (front_of is_inside (drop (at + 1) text)) (after_word (codes ">") t)) (sym skipped)
-    ∙ ap (ended (front_of is_inside (drop (at + 1) text))) (no-end (drop end text) (sym f ∙ k)))
+  module _ (b : ℕ) (inside : List ℕ) (is : text ≡ b ∷ inside) where
+    pub angles-other : (b ≡ 60 → ⊥) → None ≡ in_angles text
+    angles-other other = sym (ap in_angles is ∙ no-angle (b ∷ inside) (grind (arith, nat_tests, other)))
 
-pub angles-some : (text part : List ℕ) (at end : ℕ) (next last : Bool) → next ≡ begins_with 60 (drop at text) → next ≡ true
-    → drop end text ≡ skip is_inside (drop (at + 1) text) → slice_range text (at + 1) end ≡ front_of is_inside (drop (at + 1) text)
-    → last ≡ begins_with 62 (drop end text) → last ≡ true → part ≡ slice_range text (at + 1) end
-    → Some (record { text = part; rest = drop (end + 1) text }) ≡ in_angles (drop at text)
-angles-some text part at end next last e h skipped front f k same =
-    rw (add-one)
-    (ap (λ t. Some (record { text = t; rest = drop (suc end) text })) (same ∙ front)
-    ∙ sym (angles-at text at next e h ∙ ap (λ t. ended (front_of is_inside (drop (at + 1) text)) (after_word (codes ">") t)) (sym skipped ∙ (begins-at 62 text end (sym f ∙ k)).1)
-    ∙ ap (ended (front_of is_inside (drop (at + 1) text))) (end-here (drop (suc end) text))))
+    module _ (angled : b ≡ 60) (n : ℕ) (first : n ≡ next_place (λ c. not (is_inside c)) inside 0) where
+      place : n ≡ position_or_len (λ c. not (is_inside c)) inside
+      place = first ∙ from_the_front (λ c. not (is_inside c)) inside
+
+      front : take n inside ≡ front_of is_inside inside
+      front = ap (λ k. take k inside) place ∙ (outside-is is_inside inside).0
+
+      left : drop n inside ≡ skip is_inside inside
+      left = ap (λ k. drop k inside) place ∙ (outside-is is_inside inside).1
+
+      by-end : in_angles text ≡ ended (take n inside) (after_word (codes ">") (drop n inside))
+      by-end =
+          ap in_angles (is ∙ ap (λ c. c ∷ inside) angled) ∙ angle inside ∙ ap (λ t. ended t (after_word (codes ">") (skip is_inside inside))) (sym front)
+          ∙ ap (λ t. ended (take n inside) (after_word (codes ">") t)) (sym left)
+
+      pub angles-ended : drop n inside ≡ [] → None ≡ in_angles text
+      angles-ended none = sym (by-end ∙ ap (λ t. ended (take n inside) (after_word (codes ">") t)) none ∙ ap (ended (take n inside)) (no-end [] refl))
+
+      module _ (c : ℕ) (rest : List ℕ) (next : drop n inside ≡ c ∷ rest) where
+        pub angles-open : (c ≡ 62 → ⊥) → None ≡ in_angles text
+        angles-open other =
+            sym (by-end ∙ ap (λ t. ended (take n inside) (after_word (codes ">") t)) next ∙ ap (ended (take n inside)) (no-end (c ∷ rest) (grind (arith, nat_tests, other))))
+
+        pub angles-some : c ≡ 62 → Some (record { text = take n inside; rest = rest }) ≡ in_angles text
+        angles-some close =
+            sym (by-end ∙ ap (λ t. ended (take n inside) (after_word (codes ">") t)) (next ∙ ap (λ d. d ∷ rest) close) ∙ ap (ended (take n inside)) (end-here rest))
 
 -- a byte that comes next is ASCII
 pub next-ascii : (b : ℕ) (text : List ℕ) (at : ℕ) (next : Bool) → IsUtf8 text → b < 128 → next ≡ begins_with b (drop at text) → next ≡ true → IsCharBoundary text (at + 1)
@@ -254,14 +244,21 @@ pub label-size : (label : List ℕ) → is_in_range 1 63 (length label) ≡ fals
 unfolding is_host_label
 label-size label h = grind (arith, h)
 
-pub label-hyphen : (label : List ℕ) → 0 < length label → (get_or label 0 0 == 45 || get_or label (length label - 1) 0 == 45) ≡ true → false ≡ is_host_label label
-unfolding is_host_label
-label-hyphen label some h = grind (arith, h, begins-first 45 label some, ends-at 45 label some)
+-- the last byte, as the next one after all others
+last-next : (c : ℕ) (bs : List ℕ) → 0 < length bs → begins_with c (drop (length bs - 1) bs) ≡ ends_with c bs
+last-next c bs some =
+    let at : length bs - 1 + 0 ≡ length bs - 1 = omega arith in
+    begins-first c (drop (length bs - 1) bs) (omega (arith, some, length-drop (length bs - 1) bs))
+    ∙ ap (λ b. b == c) (get_or-drop (length bs - 1) bs 0 0 ∙ ap (λ n. get_or bs n 0) at) ∙ sym (ends-at c bs some)
 
-pub label-bytes : (label : List ℕ) → 0 < length label → is_in_range 1 63 (length label) ≡ true → (get_or label 0 0 == 45) ≡ false → (get_or label (length label - 1) 0 == 45) ≡ false
-    → list_all is_host_byte label ≡ is_host_label label
-unfolding is_host_label
-label-bytes label some few first last = grind (arith, few, first, last, begins-first 45 label some, ends-at 45 label some)
+module _ (label : List ℕ) (some : 0 < length label) where
+  pub label-hyphen : (begins_with 45 label || begins_with 45 (drop (length label - 1) label)) ≡ true → false ≡ is_host_label label
+  unfolding is_host_label
+  label-hyphen h = grind (arith, h, last-next 45 label some)
+
+  pub label-bytes : is_in_range 1 63 (length label) ≡ true → begins_with 45 label ≡ false → begins_with 45 (drop (length label - 1) label) ≡ false → list_all is_host_byte label ≡ is_host_label label
+  unfolding is_host_label
+  label-bytes few first last = grind (arith, few, first, last, last-next 45 label some)
 
 -- the autolink of what is inside
 
@@ -286,32 +283,9 @@ pub link-inside : (bs : List ℕ) (r : Reading) → Some r ≡ in_angles bs → 
 unfolding autolink
 link-inside bs r h = ap (λ o. elim o as (λ _. Option Autolink) [ Some r ↦ as_autolink r | None ↦ None ]) h
 
--- the first byte outside of what passes
-outside-is : (test : ℕ → Bool) (text : List ℕ) → (take (position_or_len (λ b. not (test b)) text) text ≡ front_of test text) × (drop (position_or_len (λ b. not (test b)) text) text ≡ skip test text)
-unfolding front_of skip
-outside-is test [] = (refl, refl)
-outside-is test (b ∷ bs) = go (test b) (outside-is test bs)
-  where
-    go : (v : Bool) → (take (position_or_len (λ c. not (test c)) bs) bs ≡ front_of test bs) × (drop (position_or_len (λ c. not (test c)) bs) bs ≡ skip test bs)
-        → (take (cond (not (not v)) (1 + position_or_len (λ c. not (test c)) bs) 0) (b ∷ bs) ≡ elim v [ true ↦ b ∷ front_of test bs | false ↦ [] ])
-        × (drop (cond (not (not v)) (1 + position_or_len (λ c. not (test c)) bs) 0) (b ∷ bs) ≡ elim v [ true ↦ skip test bs | false ↦ b ∷ bs ])
-    go true rest =
-        let one : 1 + position_or_len (λ c. not (test c)) bs ≡ suc (position_or_len (λ c. not (test c)) bs) = omega arith in
-        (ap (λ k. take k (b ∷ bs)) one ∙ ap (λ t. b ∷ t) rest.0, ap (λ k. drop k (b ∷ bs)) one ∙ rest.1)
-    go false rest = (refl, refl)
-
 module _ (test : ℕ → Bool) (bytes : List ℕ) (from at : ℕ) (low : from ≤ length bytes) (e : at ≡ next_place (λ b. not (test b)) bytes from) where
   outside-place : at ≡ from + position_or_len (λ b. not (test b)) (drop from bytes)
   outside-place = omega (arith, low, e, length-drop from bytes, prefix_len-le-length (λ b. not (not (test b))) (drop from bytes))
-
-  pub outside-front : slice_range bytes from at ≡ front_of test (drop from bytes)
-  outside-front =
-      let count : at - from ≡ position_or_len (λ b. not (test b)) (drop from bytes) = omega (arith, outside-place) in
-      ap (λ k. take k (drop from bytes)) count ∙ (outside-is test (drop from bytes)).0
-
-  pub outside-skipped : drop at bytes ≡ skip test (drop from bytes)
-  outside-skipped =
-      ap (λ k. drop k bytes) outside-place ∙ sym (drop-drop (position_or_len (λ b. not (test b)) (drop from bytes)) from bytes) ∙ (outside-is test (drop from bytes)).1
 
   pub outside-within : (from ≤ at) × (at ≤ length bytes)
   outside-within = (omega (arith, outside-place), omega (arith, e))

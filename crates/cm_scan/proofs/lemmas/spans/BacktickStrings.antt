@@ -114,7 +114,7 @@ module _ (n : ℕ) where
       last false = refl
 
   -- a run of this length
-  this-run : (b : ℕ) (bs : List ℕ) → b ≡ 96 → run_length 96 (b ∷ bs) ≡ n → up_to_run n false (b ∷ bs) ≡ Some (record { text = []; rest = after_run 96 (b ∷ bs) })
+  pub this-run : (b : ℕ) (bs : List ℕ) → b ≡ 96 → run_length 96 (b ∷ bs) ≡ n → up_to_run n false (b ∷ bs) ≡ Some (record { text = []; rest = after_run 96 (b ∷ bs) })
   unfolding up_to_run
   this-run b bs same length_is =
       ap (λ c. elim c as (λ _. Option Reading) [ true ↦ Some (record { text = []; rest = after_run 96 (b ∷ bs) }) | false ↦ beyond b (up_to_run n (b == 96) bs) ])
@@ -185,7 +185,7 @@ module _ (n : ℕ) where
   beyond-none b None h = refl
   beyond-none b (Some r) h = none-some (sym h)
 
-  one-further : (in_run : Bool) (b : ℕ) (bs : List ℕ) → up_to_run n in_run (b ∷ bs) ≡ None → up_to_run n (b == 96) bs ≡ None
+  pub one-further : (in_run : Bool) (b : ℕ) (bs : List ℕ) → up_to_run n in_run (b ∷ bs) ≡ None → up_to_run n (b == 96) bs ≡ None
   unfolding up_to_run
   one-further in_run b bs h = go (b == 96 && not in_run && run_length 96 (b ∷ bs) == n) h
     where

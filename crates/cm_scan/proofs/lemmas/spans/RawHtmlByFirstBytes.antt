@@ -149,7 +149,7 @@ pub record Cut (text : List ℕ) (at : ℕ) (rest : List ℕ) : Type 0 where
   pub high : length rest < length text
   pub bracket : get_or text (length text - length rest - 1) 0 ≡ 62
 
-cut-at : (text : List ℕ) (at : ℕ) (rest : List ℕ) → at ≤ length text → IsEnd (62 ∷ rest) (drop at text) → Cut text at rest
+pub cut-at : (text : List ℕ) (at : ℕ) (rest : List ℕ) → at ≤ length text → IsEnd (62 ∷ rest) (drop at text) → Cut text at rest
 cut-at text at rest within ends =
     let n : length (drop at text) ≡ length ends.front + suc (length rest) = ap length ends.is ∙ length-append ends.front (62 ∷ rest) in
     let size : length text ≡ at + length ends.front + suc (length rest) = omega (arith, within, length-drop at text, n) in

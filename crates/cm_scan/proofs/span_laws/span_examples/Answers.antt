@@ -4,7 +4,7 @@ use Rattle.cm_scan.specs.spans.CodeSpans.{up_to_run, but_last, stripped, code_sp
 use Rattle.cm_scan.specs.Words.{run_length, after_run, skip, front_of, after_word}
 use Rattle.cm_scan.specs.spans.Tags.{after_gap, tag_name, after_quoted, after_unquoted, after_value, after_specification, after_attribute, after_tag_end, after_attributes, open_tag, closing_tag}
 use Rattle.cm_scan.specs.spans.RawHtml.{beyond_word, from_to, short_end, after_comment, comment, after_declaration, declaration, html_tag, raw_html}
-use Rattle.cm_scan.specs.spans.Reach.{tag_reach, mark_reach, html_reach, declared, needed_after_mark, needed}
+use Rattle.cm_scan.specs.spans.Reach.{tag_reach, mark_reach, html_reach, declared, needed_after_mark, needed, link_reach, link_reaches}
 use Rattle.cm_scan.specs.laws.SpanExamples.{RawHtmlExamples, ReachExamples, OlderExamples, AutolinkExamples, CodeSpanExamples}
 use Rattle.cm_scan.proofs.span_laws.span_examples.Goals as goal
 
@@ -76,7 +76,7 @@ links = record {
 }
 
 reach : ReachExamples
-unfolding after_word beyond_word tag_reach mark_reach html_reach declared needed_after_mark needed
+unfolding after_word beyond_word tag_reach mark_reach html_reach declared needed_after_mark needed link_reach link_reaches
 reach = record {
   up_to_its_end = refl;
   quoted_bracket = refl;
@@ -89,6 +89,10 @@ reach = record {
   declaration = refl;
   no_declaration = refl;
   tag = refl;
+  autolink = refl;
+  space_in_an_autolink = refl;
+  next_autolink = refl;
+  autolinks = refl;
 }
 
 spans : CodeSpanExamples
