@@ -9,4 +9,5 @@ pub mod blocks
 pub mod links
 pub mod spans
 pub mod inlines
+pub mod cuts
 pub mod trees

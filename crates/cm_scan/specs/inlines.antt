@@ -7,3 +7,4 @@ pub mod Atoms
 pub mod Brackets
 pub mod Inlines
 pub mod DelimiterRuns
+pub mod Cuts

@@ -2,6 +2,7 @@ pub mod PartLaws
 pub mod BlockLaws
 pub mod InlineLaws
 pub mod SpanLaws
+pub mod CutLaws
 pub mod RuleLaws
 pub mod Looseness
 pub mod BlockExamples

@@ -1,0 +1,10 @@
+//! Laws of where the inlines of a leaf are in its source. Each is the contract of a public function with an
+//! empty body.
+ghost use Rattle.cm_scan.specs.laws.CutLaws.{OneCut, SourcesAreCut};
+
+/// The source of each leaf is cut into its inlines, in one way: each has a piece of the source that is read as
+/// it where the piece is, those inside it have pieces of that piece, and nothing is left over.
+pub fn sources_are_cut()
+    ensures cut { SourcesAreCut }
+    ensures one { OneCut }
+{}
