@@ -8,4 +8,5 @@ pub mod Looseness
 pub mod BlockExamples
 pub mod InlineExamples
 pub mod SpanExamples
+pub mod CutExamples
 pub mod RuleExamples

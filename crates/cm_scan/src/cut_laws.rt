@@ -1,5 +1,7 @@
 //! Laws of where the inlines of a leaf are in its source. Each is the contract of a public function with an
 //! empty body.
+ghost use Rattle.cm_scan.specs.laws.CutExamples.{CutEmphasisExamples, CutLinkExamples};
+ghost use Rattle.cm_scan.specs.laws.CutExamples.{CutSingleExamples, CutTextExamples};
 ghost use Rattle.cm_scan.specs.laws.CutLaws.{OneCut, SourcesAreCut};
 
 /// The source of each leaf is cut into its inlines, in one way: each has a piece of the source that is read as
@@ -7,4 +9,12 @@ ghost use Rattle.cm_scan.specs.laws.CutLaws.{OneCut, SourcesAreCut};
 pub fn sources_are_cut()
     ensures cut { SourcesAreCut }
     ensures one { OneCut }
+{}
+
+/// Worked examples of sources and their pieces, by computation.
+pub fn cut_examples()
+    ensures text { CutTextExamples }
+    ensures emphasis { CutEmphasisExamples }
+    ensures link { CutLinkExamples }
+    ensures single { CutSingleExamples }
 {}
