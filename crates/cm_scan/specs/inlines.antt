@@ -8,3 +8,4 @@ pub mod Brackets
 pub mod Inlines
 pub mod DelimiterRuns
 pub mod Cuts
+pub mod Places

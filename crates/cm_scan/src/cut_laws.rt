@@ -3,6 +3,7 @@
 ghost use Rattle.cm_scan.specs.laws.CutExamples.{CutEmphasisExamples, CutLinkExamples};
 ghost use Rattle.cm_scan.specs.laws.CutExamples.{CutSingleExamples, CutTextExamples};
 ghost use Rattle.cm_scan.specs.laws.CutLaws.{OneCut, SourcesAreCut};
+ghost use Rattle.cm_scan.specs.inlines.Places.{PlacesAreNested, PlacesAreSources, PlacesAreWithin};
 
 /// The source of each leaf is cut into its inlines, in one way: each has a piece of the source that is read as
 /// it where the piece is, those inside it have pieces of that piece, and nothing is left over.
@@ -17,4 +18,12 @@ pub fn cut_examples()
     ensures emphasis { CutEmphasisExamples }
     ensures link { CutLinkExamples }
     ensures single { CutSingleExamples }
+{}
+
+/// The places of inlines are nested: each is inside the ones before it or after them. The bytes at each place
+/// are the source of its inline.
+pub fn places_are_nested()
+    ensures sources { PlacesAreSources }
+    ensures within { PlacesAreWithin }
+    ensures nested { PlacesAreNested }
 {}

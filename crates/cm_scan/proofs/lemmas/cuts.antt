@@ -5,3 +5,4 @@ pub mod OneCut
 pub mod PlacedItems
 pub mod PairingCuts
 pub mod ReadingCuts
+pub mod NestedPlaces
