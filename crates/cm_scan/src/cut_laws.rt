@@ -2,7 +2,7 @@
 //! empty body.
 ghost use Rattle.cm_scan.specs.laws.CutExamples.{CutEmphasisExamples, CutLinkExamples};
 ghost use Rattle.cm_scan.specs.laws.CutExamples.{CutSingleExamples, CutTextExamples};
-ghost use Rattle.cm_scan.specs.laws.CutLaws.{OneCut, SourcesAreCut};
+ghost use Rattle.cm_scan.specs.laws.CutLaws.{OneCut, PlainTextsAreSources, SinglesAreWritten, SourcesAreCut};
 ghost use Rattle.cm_scan.specs.inlines.Places.{PlacesAreNested, PlacesAreSources, PlacesAreWithin};
 
 /// The source of each leaf is cut into its inlines, in one way: each has a piece of the source that is read as
@@ -10,6 +10,13 @@ ghost use Rattle.cm_scan.specs.inlines.Places.{PlacesAreNested, PlacesAreSources
 pub fn sources_are_cut()
     ensures cut { SourcesAreCut }
     ensures one { OneCut }
+{}
+
+/// A text without escapes and references is its source, and code spans, autolinks, raw HTML and line breaks
+/// are written between their marks.
+pub fn sources_are_written()
+    ensures text { PlainTextsAreSources }
+    ensures single { SinglesAreWritten }
 {}
 
 /// Worked examples of sources and their pieces, by computation.

@@ -1,5 +1,6 @@
-pub mod ResolvedTexts
 pub mod InlineParts
+pub mod ResolvedTexts
+pub mod WrittenSpans
 pub mod AtomsTaken
 pub mod OneCut
 pub mod PlacedItems

@@ -1,10 +1,15 @@
--- Laws of how the source of a leaf is cut into its inlines, and of where the content of a line is.
-use Rattle.std.specs.Prelude.{◌≡◌, ℕ, List, []}
+-- Laws of how the source of a leaf is cut into its inlines.
+use Rattle.std.specs.Prelude.{◌≡◌, ℕ, suc, ◌≤◌, Bool, true, not, ◌&&◌, ◌==◌, List, [], ◌∷◌, ◌++◌, replicate, codes, ◌⊎◌}
+use Rattle.std.specs.List.{list_all}
+use Rattle.std.specs.Str.{byte}
 use Rattle.cm_text.specs.Rules.{Rules}
-use Rattle.cm_tree.specs.declared.tree.Inline.{Inline}
+use Rattle.cm_tree.specs.declared.tree.Inline.{Inline, Inline-F, out-Inline}
+use Rattle.cm_tree.specs.declared.tree.Inline.TheOpen as inline
+use Rattle.cm_tree.specs.declared.tree.Inline.TheVariants.{Text}
+use Rattle.cm_scan.specs.spans.CodeSpans.{one_line, stripped}
 use Rattle.cm_scan.specs.inlines.Brackets.{Defined}
 use Rattle.cm_scan.specs.inlines.Inlines as inlines
-use Rattle.cm_scan.specs.inlines.Cuts.{Nodes, CutInto}
+use Rattle.cm_scan.specs.inlines.Cuts.{Nodes, words, single, IsCut, CutInto}
 
 -- The source of each leaf is cut into the inlines that are read from it.
 abbrev pub SourcesAreCut : Type 0
@@ -14,3 +19,28 @@ SourcesAreCut = (rules : Rules) (defined : Defined) (source : List ℕ) → (nod
 abbrev pub OneCut : Type 0
 OneCut = (rules : Rules) (defined : Defined) (inlines : List Inline) (source after : List ℕ) (nodes others : Nodes)
     → CutInto rules defined nodes inlines source after → CutInto rules defined others inlines source after → nodes ≡ others
+
+-- a byte with which neither an escape nor a reference starts
+abbrev pub is_itself : ℕ → Bool
+is_itself b = not (b == byte "\\") && not (b == byte "&")
+
+-- A text without escapes and references is its source.
+abbrev pub PlainTextsAreSources : Type 0
+PlainTextsAreSources = (rules : Rules) (defined : Defined) (text source after : List ℕ) → IsCut rules defined (words text source) after
+    → list_all is_itself source ≡ true → text ≡ source
+
+-- How an inline without inlines inside is written: a code span as its content between two backtick strings of equal length; an
+-- autolink as its text between `<` and `>`; raw HTML as it is; a soft line break as a line feed after at most one space; and a hard
+-- line break as a line feed after two spaces or more, or after a backslash.
+abbrev pub IsWritten : Inline-F Inline → (source : List ℕ) → Type 0
+IsWritten (inline.Code text) source =
+    (n : ℕ) × (content : List ℕ) × (source ≡ replicate (suc n) (byte "`") ++ (content ++ replicate (suc n) (byte "`"))) × (text ≡ stripped (one_line content))
+IsWritten (inline.Link dest title content) source = (text : List ℕ) × (source ≡ codes "<" ++ (text ++ codes ">")) × (title ≡ []) × (content ≡ Text text ∷ [])
+IsWritten (inline.Html text) source = source ≡ text
+IsWritten inline.Soft source = (n : ℕ) × (n ≤ 1) × (source ≡ replicate n (byte " ") ++ codes "\n")
+IsWritten inline.Hard source = ((n : ℕ) × (2 ≤ n) × (source ≡ replicate n (byte " ") ++ codes "\n")) ⊎ (source ≡ codes "\\\n")
+IsWritten _ source = ⊥
+
+abbrev pub SinglesAreWritten : Type 0
+SinglesAreWritten = (rules : Rules) (defined : Defined) (inline : Inline) (source after : List ℕ) → IsCut rules defined (single inline source) after
+    → IsWritten (out-Inline inline) source

@@ -12,8 +12,8 @@ use Rattle.cm_text.specs.References.{reference}
 use Rattle.cm_text.specs.Unescaping.{escape, special}
 use Rattle.cm_text.proofs.lemmas.ReferenceLemmas.{reference-none}
 use Rattle.cm_text.proofs.lemmas.UnescapingLemmas.{special-escape, special-reference}
-use Rattle.cm_tree.specs.declared.tree.Inline.{Inline}
-use Rattle.cm_tree.specs.declared.tree.Inline.TheVariants.{Text, Code, Html, Soft, Hard}
+use Rattle.cm_tree.specs.declared.tree.Inline.{Inline, out-Inline}
+use Rattle.cm_tree.specs.declared.tree.Inline.TheVariants.{Code, Html, Soft, Hard}
 use Rattle.cm_scan.specs.Words.{run_length, after_run, after_word}
 use Rattle.cm_scan.specs.inlines.Links.{Reading}
 use Rattle.cm_scan.specs.spans.CodeSpans.{code_span}
@@ -22,12 +22,13 @@ use Rattle.cm_scan.specs.inlines.Delimiters.{Run}
 use Rattle.cm_scan.specs.inlines.Pairing.{bracket_text}
 use Rattle.cm_scan.specs.inlines.Atoms.{Atom, AtomRead, Plain, Whole, Delimiter, OpenBracket, CloseBracket, read, link_of, backtick_atom, angle_atom, backslash_atom, reference_atom, break_atom, run_between, run_atom, tilde_atom, bang_atom, is_markup, markup_atom, byte_atom, or_byte, atom_at}
 use Rattle.cm_scan.specs.inlines.Cuts.{IsTextOf, first_atom}
+use Rattle.cm_scan.specs.laws.CutLaws.{is_itself, IsWritten}
 use Rattle.cm_scan.proofs.lemmas.texts.WordsGoOn.{none-some}
 use Rattle.cm_scan.proofs.lemmas.texts.EndsOfTexts.{IsEnd}
 use Rattle.cm_scan.proofs.lemmas.spans.RawHtmlGoesOn.{word-front}
 use Rattle.cm_scan.proofs.lemmas.inlines.LeftByEachStep.{atom-left}
-use Rattle.cm_scan.proofs.lemmas.cuts.InlineParts.{kind, kind-code, kind-html, kind-soft, kind-hard, kind-link}
-use Rattle.cm_scan.proofs.lemmas.cuts.ResolvedTexts.{is_itself, byte-itself, plain-byte, run-itself, special-text}
+use Rattle.cm_scan.proofs.lemmas.cuts.WrittenSpans.{Written, run-whole, code-written, inline_in, left_after, angle-written, break-written, backslash-written}
+use Rattle.cm_scan.proofs.lemmas.cuts.ResolvedTexts.{byte-itself, plain-byte, run-itself, special-text}
 
 -- what may be left of a delimiter run
 abbrev pub may_be_left : (character left : ℕ) → Bool
@@ -36,7 +37,7 @@ may_be_left character left = (character == 42 || character == 95) && nat_le 1 le
 -- what is known of what an atom takes, with what is left after it
 abbrev pub AtomLaw : Atom → (piece rest : List ℕ) → Type 0
 AtomLaw (Plain t) piece rest = IsTextOf t piece rest
-AtomLaw (Whole inline) piece rest = 5 ≤ kind inline
+AtomLaw (Whole inline) piece rest = IsWritten (out-Inline inline) piece
 AtomLaw (Delimiter run) piece rest = (piece ≡ replicate run.left run.character) × (may_be_left run.character run.left ≡ true)
 AtomLaw (OpenBracket image) piece rest = piece ≡ bracket_text image
 AtomLaw CloseBracket piece rest = piece ≡ 93 ∷ []
@@ -57,9 +58,17 @@ takes-none : (b : ℕ) (bs : List ℕ) → special (b ∷ bs) ≡ None → Takes
 unfolding Takes
 takes-none b bs e end = takes-byte b bs e
 
-takes-whole : (inline : Inline) (rest : List ℕ) (b : ℕ) (bs : List ℕ) → 5 ≤ kind inline → Takes (read (Whole inline) rest) b bs
+-- the piece of a text before what is left of it
+piece-is : (b : ℕ) (bs taken rest piece : List ℕ) → bs ≡ taken ++ rest → b ∷ bs ≡ piece ++ rest → piece ≡ b ∷ taken
+piece-is b bs taken rest piece is whole = append_cancel_right piece (b ∷ taken) rest (sym whole ∙ ap (λ t. b ∷ t) is)
+
+takes-whole : (inline : Inline) (rest : List ℕ) (b : ℕ) (bs : List ℕ) → Written inline (b ∷ bs) rest → Takes (read (Whole inline) rest) b bs
 unfolding Takes
-takes-whole inline rest b bs h end = record { taken = end.front; is = end.is; law = h }
+takes-whole inline rest b bs written end = record {
+  taken = end.front;
+  is = end.is;
+  law = subst (IsWritten (out-Inline inline)) (piece-is b bs end.front rest written.source end.is written.is) written.law;
+}
 
 takes-plain : (t rest : List ℕ) (b : ℕ) (bs : List ℕ) → ((taken : List ℕ) → bs ≡ taken ++ rest → IsTextOf t (b ∷ taken) rest) → Takes (read (Plain t) rest) b bs
 unfolding Takes
@@ -82,54 +91,42 @@ run-rest : (marker b : ℕ) (bs : List ℕ) → (b == marker) ≡ true → after
 unfolding after_run
 run-rest marker b bs e = ap (λ c. elim c as (λ _. List ℕ) [ true ↦ after_run marker bs | false ↦ b ∷ bs ]) e
 
-run-whole : (marker : ℕ) (bs : List ℕ) → bs ≡ replicate (run_length marker bs) marker ++ after_run marker bs
-unfolding run_length after_run
-run-whole marker [] = refl
-run-whole marker (b ∷ bs) = go (b == marker) refl (run-whole marker bs)
-  where
-    go : (c : Bool) → (b == marker) ≡ c → bs ≡ replicate (run_length marker bs) marker ++ after_run marker bs
-        → b ∷ bs ≡ replicate (elim c as (λ _. ℕ) [ true ↦ suc (run_length marker bs) | false ↦ 0 ]) marker ++ (elim c as (λ _. List ℕ) [ true ↦ after_run marker bs | false ↦ b ∷ bs ])
-    go true h e = ap (λ t. b ∷ t) e ∙ ap (λ x. x ∷ (replicate (run_length marker bs) marker ++ after_run marker bs)) (eqb-true b marker h)
-    go false h e = refl
-
 -- a run that starts nothing is text
 text-run : (marker b : ℕ) (bs : List ℕ) → is_itself marker ≡ true → Takes (read (Plain (replicate (run_length marker (b ∷ bs)) marker)) (after_run marker (b ∷ bs))) b bs
-text-run marker b bs its = takes-plain (replicate n marker) rest b bs (λ taken is. subst (λ s. IsTextOf (replicate n marker) s rest) (sym (whole taken is)) (run-itself n marker rest its))
+text-run marker b bs its =
+    takes-plain run rest b bs (λ taken is. subst (λ s. IsTextOf run s rest) (piece-is b bs taken rest run is (run-whole marker (b ∷ bs))) (run-itself (run_length marker (b ∷ bs)) marker rest its))
   where
-    n : ℕ
-    n = run_length marker (b ∷ bs)
+    run : List ℕ
+    run = replicate (run_length marker (b ∷ bs)) marker
 
     rest : List ℕ
     rest = after_run marker (b ∷ bs)
-
-    whole : (taken : List ℕ) → bs ≡ taken ++ rest → b ∷ taken ≡ replicate n marker
-    whole taken is = append_cancel_right (b ∷ taken) (replicate n marker) rest (ap (λ t. b ∷ t) (sym is) ∙ run-whole marker (b ∷ bs))
 
 -- each atom
 
 backtick-takes : (b : ℕ) (bs : List ℕ) → (b == 96) ≡ true → Takes (backtick_atom (b ∷ bs)) b bs
 unfolding backtick_atom
-backtick-takes b bs h = go (code_span (b ∷ bs))
+backtick-takes b bs h = go (code_span (b ∷ bs)) refl
   where
-    go : (o : Option Reading) → Takes (elim o as (λ _. Option AtomRead) [
+    go : (o : Option Reading) → code_span (b ∷ bs) ≡ o → Takes (elim o as (λ _. Option AtomRead) [
       | Some span ↦ read (Whole (Code span.text)) span.rest
       | None ↦ read (Plain (replicate (run_length 96 (b ∷ bs)) 96)) (after_run 96 (b ∷ bs))
     ]) b bs
-    go (Some span) = takes-whole _ _ b bs (omega (arith, kind-code span.text))
-    go None = text-run 96 b bs refl
+    go (Some span) e = takes-whole (Code span.text) span.rest b bs (code-written (b ∷ bs) span e)
+    go None e = text-run 96 b bs refl
 
 angle-takes : (rules : Rules) (b : ℕ) (bs : List ℕ) → (b == 60) ≡ true → Takes (angle_atom rules (b ∷ bs)) b bs
-unfolding angle_atom
-angle-takes rules b bs h = go (at_angle rules (b ∷ bs))
+unfolding angle_atom inline_in left_after
+angle-takes rules b bs h = go (at_angle rules (b ∷ bs)) refl
   where
-    go : (o : Option Angled) → Takes (elim o as (λ _. Option AtomRead) [
+    go : (o : Option Angled) → at_angle rules (b ∷ bs) ≡ o → Takes (elim o as (λ _. Option AtomRead) [
       | Some (Addressed link) ↦ read (Whole (link_of link)) link.rest
       | Some (Tagged tag) ↦ read (Whole (Html tag.text)) tag.rest
       | None ↦ None
     ]) b bs
-    go None = takes-none b bs (plain-is b 60 bs h refl)
-    go (Some (Addressed link)) = takes-whole _ _ b bs (omega (arith, kind-link false link.destination [] (Text link.text ∷ [])))
-    go (Some (Tagged tag)) = takes-whole _ _ b bs (omega (arith, kind-html tag.text))
+    go None e = takes-none b bs (plain-is b 60 bs h refl)
+    go (Some (Addressed link)) e = takes-whole (link_of link) link.rest b bs (angle-written rules (b ∷ bs) (Addressed link) e)
+    go (Some (Tagged tag)) e = takes-whole (Html tag.text) tag.rest b bs (angle-written rules (b ∷ bs) (Tagged tag) e)
 
 -- an escape stands for one byte
 escaped-itself : (text : List ℕ) (escaped : List ℕ × ℕ) → escape text ≡ Some escaped → encode_utf8_all escaped.0 ≡ escaped.0
@@ -147,18 +144,18 @@ escaped-itself (b ∷ c ∷ rest) escaped e = go (b == 92) (is_ascii_punct c) re
 
 backslash-takes : (b : ℕ) (bs : List ℕ) → (b == 92) ≡ true → Takes (backslash_atom (b ∷ bs)) b bs
 unfolding backslash_atom
-backslash-takes b bs h = go (after_word (codes "\\\n") (b ∷ bs)) (escape (b ∷ bs)) refl
+backslash-takes b bs h = go (after_word (codes "\\\n") (b ∷ bs)) refl (escape (b ∷ bs)) refl
   where
     no-reference : reference (b ∷ bs) ≡ None
     no-reference = reference-none (b ∷ bs) (ap (λ c. c == 38) (eqb-true b 92 h))
 
-    go : (o : Option (List ℕ)) (p : Option (List ℕ × ℕ)) → escape (b ∷ bs) ≡ p → Takes (elim o as (λ _. Option AtomRead) [
+    go : (o : Option (List ℕ)) → after_word (codes "\\\n") (b ∷ bs) ≡ o → (p : Option (List ℕ × ℕ)) → escape (b ∷ bs) ≡ p → Takes (elim o as (λ _. Option AtomRead) [
       | Some rest ↦ read (Whole Hard) rest
       | None ↦ elim p as (λ _. Option AtomRead) [ Some escaped ↦ read (Plain escaped.0) (drop escaped.1 (b ∷ bs)) | None ↦ None ]
     ]) b bs
-    go (Some rest) p g = takes-whole _ _ b bs (omega (arith, kind-hard))
-    go None None g = takes-none b bs (special-reference (b ∷ bs) (sym g) ∙ no-reference)
-    go None (Some escaped) g = takes-plain escaped.0 (drop escaped.1 (b ∷ bs)) b bs (λ taken is.
+    go (Some rest) f p g = takes-whole Hard rest b bs (backslash-written (b ∷ bs) rest f)
+    go None f None g = takes-none b bs (special-reference (b ∷ bs) (sym g) ∙ no-reference)
+    go None f (Some escaped) g = takes-plain escaped.0 (drop escaped.1 (b ∷ bs)) b bs (λ taken is.
         subst (λ t. IsTextOf t (b ∷ taken) (drop escaped.1 (b ∷ bs))) (escaped-itself (b ∷ bs) escaped g)
         (special-text b taken (drop escaped.1 (b ∷ bs)) escaped.0 escaped.1 (ap (λ t. special (b ∷ t)) (sym is) ∙ sym (special-escape (b ∷ bs) escaped.0 escaped.1 (sym g))) (ap (λ t. drop escaped.1 (b ∷ t)) (sym is))))
 
@@ -181,15 +178,12 @@ reference-takes b bs h = go (reference (b ∷ bs)) refl
 
 break-takes : (b : ℕ) (bs : List ℕ) → (b == 10 || b == 32) ≡ true → Takes (break_atom (b ∷ bs)) b bs
 unfolding break_atom
-break-takes b bs h = go (after_word (codes "\n") (after_run 32 (b ∷ bs)))
+break-takes b bs h = go (after_word (codes "\n") (after_run 32 (b ∷ bs))) refl
   where
-    either : (v : Bool) → 5 ≤ kind (if v then Hard else Soft)
-    either true = omega (arith, kind-hard)
-    either false = omega (arith, kind-soft)
-
-    go : (o : Option (List ℕ)) → Takes (elim o as (λ _. Option AtomRead) [ Some rest ↦ read (Whole (if nat_le 2 (run_length 32 (b ∷ bs)) then Hard else Soft)) rest | None ↦ None ]) b bs
-    go None = takes-none b bs (plain-byte b bs (grind (arith, nat_tests, h)))
-    go (Some rest) = takes-whole _ _ b bs (either (nat_le 2 (run_length 32 (b ∷ bs))))
+    go : (o : Option (List ℕ)) → after_word (codes "\n") (after_run 32 (b ∷ bs)) ≡ o
+        → Takes (elim o as (λ _. Option AtomRead) [ Some rest ↦ read (Whole (if nat_le 2 (run_length 32 (b ∷ bs)) then Hard else Soft)) rest | None ↦ None ]) b bs
+    go None e = takes-none b bs (plain-byte b bs (grind (arith, nat_tests, h)))
+    go (Some rest) e = takes-whole (if nat_le 2 (run_length 32 (b ∷ bs)) then Hard else Soft) rest b bs (break-written (b ∷ bs) rest e)
 
 run-takes : (rules : Rules) (before : List ℕ) (character b : ℕ) (bs : List ℕ) → (b == character) ≡ true → may_be_left character (run_length character (b ∷ bs)) ≡ true → Takes (run_atom rules before character (b ∷ bs)) b bs
 unfolding run_atom run_between
@@ -323,7 +317,12 @@ whole-anywhere rules before b bs inline rest e = ap (λ (a : AtomRead). Some a) 
     go true e = alike-markup rules before b bs inline rest e
     go false e = e
 
--- and it is none that text, runs or an image make
-pub alone-kind : (rules : Rules) (source : List ℕ) (inline : Inline) (rest : List ℕ) → first_atom rules source ≡ read (Whole inline) rest → 5 ≤ kind inline
-alone-kind rules [] inline rest e = none-some e
-alone-kind rules (b ∷ bs) inline rest e = (subst (λ (a : AtomRead). Took b bs a) (same_Some (atom_at rules [] b bs) _ e) (atom-takes rules [] b bs)).law
+-- and it is written as its kind is
+pub single-written : (rules : Rules) (source : List ℕ) (inline : Inline) (after : List ℕ) → first_atom rules (source ++ after) ≡ read (Whole inline) after → IsWritten (out-Inline inline) source
+single-written rules source inline after e = go (source ++ after) refl e
+  where
+    go : (text : List ℕ) → source ++ after ≡ text → first_atom rules text ≡ read (Whole inline) after → IsWritten (out-Inline inline) source
+    go [] is e = none-some e
+    go (b ∷ bs) is e =
+        let took = subst (λ (a : AtomRead). Took b bs a) (same_Some (atom_at rules [] b bs) _ e) (atom-takes rules [] b bs) in
+        subst (IsWritten (out-Inline inline)) (sym (piece-is b bs took.taken after source took.is (sym is))) took.law

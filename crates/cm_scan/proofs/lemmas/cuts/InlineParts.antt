@@ -1,11 +1,12 @@
 -- The kinds of inlines, and what is in them.
-use Rattle.std.proofs.Common.{◌≡◌, ℕ, Bool, true, false, ◌==◌, List, [], ap, ◌∙◌, sym, refl}
+use Rattle.std.proofs.Common.{◌≡◌, ℕ, ◌≤◌, Bool, true, false, ◌==◌, List, [], ap, arith}
 use Rattle.std.specs.Prelude.{if◌then◌else◌}
 use Rattle.cm_tree.specs.declared.tree.Inline.{Inline, Inline-F, out-Inline}
 use Rattle.cm_tree.specs.declared.tree.Inline.TheOpen as inline
-use Rattle.cm_tree.specs.declared.tree.Inline.TheVariants.{Text, Code, Html, Soft, Hard, Emph, Strong, Strike, Link, Image, outs-Text, outs-Code, outs-Html, outs-Soft, outs-Hard, outs-Emph, outs-Strong, outs-Strike, outs-Link, outs-Image}
+use Rattle.cm_tree.specs.declared.tree.Inline.TheVariants.{Text, Emph, Strong, Strike, Link, Image, outs-Text, outs-Emph, outs-Strong, outs-Strike, outs-Link, outs-Image}
 use Rattle.cm_scan.specs.inlines.Pairing.{emphasised}
 use Rattle.cm_scan.specs.inlines.Cuts.{link_or_image}
+use Rattle.cm_scan.specs.laws.CutLaws.{IsWritten}
 
 -- a number for each kind; that of a link counts as an atom's as well, since an autolink is one
 kind_in : Inline-F Inline → ℕ
@@ -62,21 +63,22 @@ pub text-text : (t : List ℕ) → text (Text t) ≡ t
 unfolding text text_in
 text-text t = ap text_in (outs-Text t)
 
-pub kind-code : (t : List ℕ) → kind (Code t) ≡ 6
+-- an inline that is written as one without inlines inside is neither text, nor made by runs, nor an image
+pub kind-written : (i : Inline) (source : List ℕ) → IsWritten (out-Inline i) source → 5 ≤ kind i
 unfolding kind kind_in
-kind-code t = ap kind_in (outs-Code t)
-
-pub kind-html : (t : List ℕ) → kind (Html t) ≡ 6
-unfolding kind kind_in
-kind-html t = ap kind_in (outs-Html t)
-
-pub kind-soft : kind Soft ≡ 6
-unfolding kind kind_in
-kind-soft = ap kind_in outs-Soft
-
-pub kind-hard : kind Hard ≡ 6
-unfolding kind kind_in
-kind-hard = ap kind_in outs-Hard
+kind-written i source w = go (out-Inline i) w
+  where
+    go : (f : Inline-F Inline) → IsWritten f source → 5 ≤ kind_in f
+    go (inline.Text t) w = absurd w
+    go (inline.Code t) w = omega arith
+    go (inline.Html t) w = omega arith
+    go inline.Soft w = omega arith
+    go inline.Hard w = omega arith
+    go (inline.Emph is) w = absurd w
+    go (inline.Strong is) w = absurd w
+    go (inline.Strike is) w = absurd w
+    go (inline.Link d t is) w = omega arith
+    go (inline.Image d t is) w = absurd w
 
 pub kind-link : (image : Bool) (d t : List ℕ) (is : List Inline) → kind (link_or_image image d t is) ≡ (if image then 4 else 5)
 unfolding kind kind_in

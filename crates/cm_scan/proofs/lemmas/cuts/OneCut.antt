@@ -12,10 +12,10 @@ use Rattle.cm_scan.specs.inlines.Brackets.{Defined, LinkEnd, link_end, end_at}
 use Rattle.cm_scan.specs.inlines.Pairing.{bracket_text, emphasised}
 use Rattle.cm_scan.specs.Words.{after_word}
 use Rattle.cm_scan.specs.inlines.Cuts.{Node, words, single, emphasis, bracketed, Nodes, none, node, link_or_image, inline_of, inlines_of, source_of, sources_of, resolved, IsTextOf, first_atom, encloses, IsCut, AreCut, CutInto}
-use Rattle.cm_scan.specs.laws.CutLaws.{OneCut}
-use Rattle.cm_scan.proofs.lemmas.cuts.InlineParts.{kind, text, content, dest, title, kind-text, text-text, kind-link, content-link, dest-link, title-link, kind-emphasised, content-emphasised}
-use Rattle.cm_scan.proofs.lemmas.cuts.ResolvedTexts.{same-end, taken_from, left_of}
-use Rattle.cm_scan.proofs.lemmas.cuts.AtomsTaken.{is_whole, alone-kind}
+use Rattle.cm_scan.specs.laws.CutLaws.{OneCut, PlainTextsAreSources, SinglesAreWritten}
+use Rattle.cm_scan.proofs.lemmas.cuts.InlineParts.{kind, kind-written, text, content, dest, title, kind-text, text-text, kind-link, content-link, dest-link, title-link, kind-emphasised, content-emphasised}
+use Rattle.cm_scan.proofs.lemmas.cuts.ResolvedTexts.{same-end, taken_from, left_of, plain-text}
+use Rattle.cm_scan.proofs.lemmas.cuts.AtomsTaken.{is_whole, single-written}
 
 -- what follows the same text is the same
 text-end : (t s r a b : List ℕ) → s ++ a ≡ r ++ b → IsTextOf t s a → IsTextOf t r b → a ≡ b
@@ -195,11 +195,14 @@ module _ (rules : Rules) (defined : Defined) where
   apart : {A : Type 0} → ⊥ → A
   apart e = absurd e
 
-  alone-text : (s : List ℕ) (i : Inline) (a t : List ℕ) → i ≡ Text t → first_atom rules s ≡ read (Whole i) a → ⊥
-  alone-text s i a t e h = absurd (omega (arith, alone-kind rules s i a h, ap kind e, kind-text t))
+  alone-kind : (s : List ℕ) (i : Inline) (a : List ℕ) → first_atom rules (s ++ a) ≡ read (Whole i) a → 5 ≤ kind i
+  alone-kind s i a h = kind-written i s (single-written rules s i a h)
 
-  alone-emphasis : (s : List ℕ) (i : Inline) (a : List ℕ) (c n : ℕ) (is : List Inline) → i ≡ emphasised c n is → first_atom rules s ≡ read (Whole i) a → ⊥
-  alone-emphasis s i a c n is e h = absurd (omega (arith, alone-kind rules s i a h, ap kind e, (emphasis-kind c n is).1))
+  alone-text : (s : List ℕ) (i : Inline) (a t : List ℕ) → i ≡ Text t → first_atom rules (s ++ a) ≡ read (Whole i) a → ⊥
+  alone-text s i a t e h = absurd (omega (arith, alone-kind s i a h, ap kind e, kind-text t))
+
+  alone-emphasis : (s : List ℕ) (i : Inline) (a : List ℕ) (c n : ℕ) (is : List Inline) → i ≡ emphasised c n is → first_atom rules (s ++ a) ≡ read (Whole i) a → ⊥
+  alone-emphasis s i a c n is e h = absurd (omega (arith, alone-kind s i a h, ap kind e, (emphasis-kind c n is).1))
 
   alone-bracketed : (s : List ℕ) (i : Inline) (a : List ℕ) (image : Bool) (t b : List ℕ) → s ≡ (bracket_text image ++ t) ++ b → first_atom rules s ≡ read (Whole i) a → ⊥
   alone-bracketed s i a image t b e h = bracket-alone rules image (t ++ b) i a (ap (first_atom rules) (sym (append_assoc (bracket_text image) t b) ∙ sym e) ∙ h)
@@ -220,14 +223,14 @@ module _ (rules : Rules) (defined : Defined) where
     same-node (single i s) (single j r) a b is same w v = same-single i s j r a b is same w v
     same-node (emphasis c n ns) (emphasis d m ms) a b i same w v = same-emphasis c n ns d m ms a b (λ x y. same-nodes ns ms x y) i same w v
     same-node (bracketed i d t ns s) (bracketed j e u ms r) a b is same w v = same-bracketed i d t ns s j e u ms r a b (λ x y. same-nodes ns ms x y) is same w v
-    same-node (words t s) (single j r) a b i same w v = apart (alone-text _ j b t (sym i) v)
+    same-node (words t s) (single j r) a b i same w v = apart (alone-text r j b t (sym i) v)
     same-node (words t s) (emphasis d m ms) a b i same w v = apart (text-emphasis t d m _ i)
     same-node (words t s) (bracketed j e u ms r) a b i same w v = apart (text-link t j e u _ i)
-    same-node (single i s) (words u r) a b is same w v = apart (alone-text _ i a u is w)
-    same-node (single i s) (emphasis d m ms) a b is same w v = apart (alone-emphasis _ i a d m _ is w)
+    same-node (single i s) (words u r) a b is same w v = apart (alone-text s i a u is w)
+    same-node (single i s) (emphasis d m ms) a b is same w v = apart (alone-emphasis s i a d m _ is w)
     same-node (single i s) (bracketed j e u ms r) a b is same w v = apart (alone-bracketed _ i a j _ b same w)
     same-node (emphasis c n ns) (words u r) a b i same w v = apart (text-emphasis u c n _ (sym i))
-    same-node (emphasis c n ns) (single j r) a b i same w v = apart (alone-emphasis _ j b c n _ (sym i) v)
+    same-node (emphasis c n ns) (single j r) a b i same w v = apart (alone-emphasis r j b c n _ (sym i) v)
     same-node (emphasis c n ns) (bracketed j e u ms r) a b i same w v = apart (emphasis-link c n _ j e u _ i)
     same-node (bracketed i d t ns s) (words u r) a b is same w v = apart (text-link u i d t _ (sym is))
     same-node (bracketed i d t ns s) (single j r) a b is same w v = apart (alone-bracketed _ j b i _ a (sym same) v)
@@ -244,3 +247,9 @@ module _ (rules : Rules) (defined : Defined) where
 
 pub one_cut : OneCut
 one_cut rules defined inlines source after nodes others w v = (same-nodes rules defined nodes others after after (w.inlines_are ∙ sym v.inlines_are) (ap (λ t. t ++ after) (w.whole ∙ sym v.whole)) w.cut v.cut).0
+
+pub plain_texts_are_sources : PlainTextsAreSources
+plain_texts_are_sources rules defined text source after w h = plain-text source text after w h
+
+pub singles_are_written : SinglesAreWritten
+singles_are_written rules defined inline source after w = single-written rules source inline after w

@@ -9,8 +9,9 @@ use Rattle.cm_scan.specs.inlines.Brackets.{Defined}
 use Rattle.cm_scan.specs.inlines.Delimiters.{Run}
 use Rattle.cm_scan.specs.inlines.Pairing.{Item, Characters, Finished, Linked, Delimiters, Opener, bracket_text, text_before, settled_after, settled, used, emphasised, without, paired, pair_once, pairs_within, room, pair_all, emphasis_of}
 use Rattle.cm_scan.specs.inlines.Cuts.{Node, words, emphasis, Nodes, none, node, inline_of, inlines_of, source_of, sources_of, IsTextOf, encloses, IsCut, AreCut, CutInto}
+use Rattle.cm_scan.specs.laws.CutLaws.{is_itself}
 use Rattle.cm_scan.proofs.lemmas.inlines.PairingLemmas.{together, Split, leftmost-splits}
-use Rattle.cm_scan.proofs.lemmas.cuts.ResolvedTexts.{is_itself, texts-joined, text-itself, run-itself, bracket-itself, nothing-written}
+use Rattle.cm_scan.proofs.lemmas.cuts.ResolvedTexts.{texts-joined, text-itself, run-itself, bracket-itself, nothing-written}
 use Rattle.cm_scan.proofs.lemmas.cuts.AtomsTaken.{may_be_left}
 use Rattle.cm_scan.proofs.lemmas.cuts.PlacedItems.{Placed, characters, finished, linked, waiting, opener, item_of, piece_of, items_of, pieces_of, items-join, pieces-join, IsPlaced, ArePlaced, are-joined, are-front, are-back}
 

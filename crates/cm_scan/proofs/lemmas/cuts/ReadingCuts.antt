@@ -18,6 +18,7 @@ use Rattle.cm_scan.proofs.lemmas.inlines.PairingLemmas.{reverse-first}
 use Rattle.cm_scan.proofs.lemmas.inlines.LeftByEachStep.{end_at-end}
 use Rattle.cm_scan.proofs.lemmas.inlines.ReadingSteps.{reading_goes_on}
 use Rattle.cm_scan.proofs.lemmas.cuts.ResolvedTexts.{text-itself, bracket-itself}
+use Rattle.cm_scan.proofs.lemmas.cuts.WrittenSpans.{front-of}
 use Rattle.cm_scan.proofs.lemmas.cuts.AtomsTaken.{Took, atom-takes, whole-anywhere}
 use Rattle.cm_scan.proofs.lemmas.cuts.PlacedItems.{Placed, characters, finished, linked, waiting, opener, item_of, piece_of, items_of, pieces_of, items-join, pieces-join, IsPlaced, ArePlaced, are-joined}
 use Rattle.cm_scan.proofs.lemmas.cuts.PairingCuts.{Cuts, pairing-keeps}
@@ -82,16 +83,6 @@ nearest (characters t s ∷ qs) inner found e = further (characters t s) qs inne
 nearest (finished n ∷ qs) inner found e = further (finished n) qs inner found (nearest qs (finished n ∷ inner) found e)
 nearest (linked n ∷ qs) inner found e = further (linked n) qs inner found (nearest qs (linked n ∷ inner) found e)
 nearest (waiting r ∷ qs) inner found e = further (waiting r) qs inner found (nearest qs (waiting r ∷ inner) found e)
-
-take-front : (s t : List ℕ) → take (length (s ++ t) - length t) (s ++ t) ≡ s
-take-front s t = ap (λ n. take n (s ++ t)) count ∙ go s
-  where
-    count : length (s ++ t) - length t ≡ length s
-    count = omega (arith, length-append s t)
-
-    go : (s : List ℕ) → take (length s) (s ++ t) ≡ s
-    go [] = refl
-    go (b ∷ bs) = ap (λ l. b ∷ l) (go bs)
 
 regroup : (b m f t : List ℕ) → b ++ (m ++ (f ++ t)) ≡ ((b ++ m) ++ f) ++ t
 regroup b m f t = simp append_assoc refl
@@ -241,7 +232,7 @@ module _ (rules : Rules) (defined : Defined) where
       source_is = content.into.whole ∙ pieces-reverse n.front
 
       between : take (length found.source - length (93 ∷ rest)) found.source ≡ sources_of content.nodes
-      between = ap (λ t. take (length t - length (93 ∷ rest)) t) halves.1.0 ∙ take-front (back_of n.front) (93 ∷ rest) ∙ sym source_is
+      between = ap (λ t. take (length t - length (93 ∷ rest)) t) halves.1.0 ∙ front-of (back_of n.front) (93 ∷ rest) ∙ sym source_is
 
       ended : end_at rules defined (sources_of content.nodes) rest ≡ Some end
       ended = ap (λ t. end_at rules defined t rest) (sym between) ∙ e

@@ -1,5 +1,5 @@
 -- Texts with their escapes and references resolved, character by character.
-use Rattle.std.proofs.Common.{◌≡◌, ℕ, zero, suc, ◌+◌, ◌≤◌, Bool, true, false, not, ◌&&◌, ◌==◌, replicate, List, [], ◌∷◌, ◌++◌, length, drop, Option, Some, None, codes, encode_utf8_all, if◌then◌else◌, refl, sym, ap, ◌∙◌, arith, append_assoc, append-nil, length-append}
+use Rattle.std.proofs.Common.{◌≡◌, ℕ, zero, suc, ◌+◌, ◌≤◌, Bool, true, false, not, ◌&&◌, ◌==◌, replicate, List, [], ◌∷◌, ◌++◌, length, drop, Option, Some, None, codes, encode_utf8_all, if◌then◌else◌, refl, sym, ap, ◌∙◌, arith, append_assoc, append-nil, length-append, length-drop}
 use Rattle.std.specs.Prelude.{nat_le}
 use Rattle.std.specs.Char.{encode_utf8}
 use Rattle.std.specs.List.{list_all}
@@ -14,10 +14,11 @@ use Rattle.cm_text.specs.Characters.{is_ascii_punct}
 use Rattle.cm_text.specs.NamedReferences.{names}
 use Rattle.cm_text.specs.References.{numbered, numbered_character, entry, named, between, decimal_reference, hexadecimal_reference, entity_reference, first_of_all, reference}
 use Rattle.cm_text.specs.Unescaping.{escape, special}
-use Rattle.cm_text.proofs.lemmas.UnescapingLemmas.{special-none}
+use Rattle.cm_text.proofs.lemmas.UnescapingLemmas.{EndsInAscii, special-ends, special-none}
 use Rattle.cm_scan.specs.inlines.Pairing.{bracket_text}
 use Rattle.cm_scan.proofs.lemmas.texts.WordsGoOn.{none-some}
 use Rattle.cm_scan.specs.inlines.Cuts.{first_resolved, resolved, IsTextOf}
+use Rattle.cm_scan.specs.laws.CutLaws.{is_itself}
 
 -- nothing is resolved to nothing
 
@@ -183,10 +184,6 @@ texts-joined t s u r after (n, e) (m, f) =
 
 -- characters as they are
 
--- a byte with which no escape and no reference starts
-abbrev pub is_itself : ℕ → Bool
-is_itself b = not (b == 92) && not (b == 38)
-
 first-itself : (b : ℕ) (bs : List ℕ) → special (b ∷ bs) ≡ None → first_resolved b bs ≡ (b ∷ [], bs)
 first-itself b bs e = ap (λ o. elim o as (λ _. List ℕ × List ℕ) [ Some found ↦ (encode_utf8_all found.0, drop found.1 (b ∷ bs)) | None ↦ (b ∷ [], bs) ]) e
 
@@ -223,3 +220,38 @@ special-text b taken rest characters len e left = (1, ap made e ∙ ap (λ t. (t
   where
     made : Found → List ℕ × List ℕ
     made o = let first = elim o as (λ _. List ℕ × List ℕ) [ Some found ↦ (encode_utf8_all found.0, drop found.1 (b ∷ (taken ++ rest))) | None ↦ (b ∷ [], taken ++ rest) ] in (first.0 ++ [], first.1)
+
+-- what is left is shorter
+
+first-shorter : (b : ℕ) (bs : List ℕ) → length (first_resolved b bs).1 ≤ length bs
+first-shorter b bs = go (special (b ∷ bs)) (special-ends (b ∷ bs))
+  where
+    go : (o : Found) → EndsInAscii (b ∷ bs) o
+        → length (elim o as (λ _. List ℕ × List ℕ) [ Some found ↦ (encode_utf8_all found.0, drop found.1 (b ∷ bs)) | None ↦ (b ∷ [], bs) ]).1 ≤ length bs
+    go None ends = omega arith
+    go (Some found) ends = omega (arith, ends.0, length-drop found.1 (b ∷ bs))
+
+left-shorter : (n : ℕ) (s : List ℕ) → length (left_of n s) ≤ length s
+unfolding resolved
+left-shorter zero s = omega arith
+left-shorter (suc n) [] = omega arith
+left-shorter (suc n) (b ∷ bs) = omega (arith, left-shorter n (first_resolved b bs).1, first-shorter b bs)
+
+-- a text in which nothing is resolved is its source
+plain-by : (n : ℕ) (source text after : List ℕ) → resolved n (source ++ after) ≡ (text, after) → list_all is_itself source ≡ true → text ≡ source
+unfolding resolved
+plain-by zero [] text after e h = sym (ap (λ (p : List ℕ × List ℕ). p.0) e)
+plain-by zero (c ∷ cs) text after e h = absurd (omega (arith, ap (λ (p : List ℕ × List ℕ). length p.1) e, length-append cs after))
+plain-by (suc n) [] text [] e h = sym (ap (λ (p : List ℕ × List ℕ). p.0) e)
+plain-by (suc n) [] text (b ∷ bs) e h =
+    absurd (omega (arith, ap (λ (p : List ℕ × List ℕ). length p.1) e, left-shorter n (first_resolved b bs).1, first-shorter b bs))
+plain-by (suc n) (c ∷ cs) text after e h =
+    let parts = and_parts (is_itself c) (list_all is_itself cs) h in
+    let first = first-itself c (cs ++ after) (plain-byte c (cs ++ after) parts.0) in
+    let whole : (c ∷ taken_from n (cs ++ after), left_of n (cs ++ after)) ≡ (text, after) =
+    ap (λ (p : List ℕ × List ℕ). (p.0 ++ taken_from n p.1, left_of n p.1)) (sym first) ∙ e in
+    let others = plain-by n cs (taken_from n (cs ++ after)) after (ap (λ t. (taken_from n (cs ++ after), t)) (ap (λ (p : List ℕ × List ℕ). p.1) whole)) parts.1 in
+    sym (ap (λ (p : List ℕ × List ℕ). p.0) whole) ∙ ap (λ t. c ∷ t) others
+
+pub plain-text : (source text after : List ℕ) → IsTextOf text source after → list_all is_itself source ≡ true → text ≡ source
+plain-text source text after (n, e) h = plain-by n source text after e h

@@ -1,0 +1,8 @@
+use Rattle.cm_scan.proofs.lemmas.cuts.OneCut.{plain_texts_are_sources, singles_are_written}
+use Rattle.cm_scan.proofs.cut_laws.sources_are_written.Goals as goal
+
+pub returns-clause-text : goal.returns-clause-text
+returns-clause-text c = plain_texts_are_sources
+
+pub returns-clause-single : goal.returns-clause-single
+returns-clause-single c = singles_are_written
