@@ -1,8 +1,9 @@
 //! Laws of where the inlines of a leaf are in its source. Each is the contract of a public function with an
 //! empty body.
 ghost use Rattle.cm_scan.specs.laws.CutExamples.{CutEmphasisExamples, CutLinkExamples};
-ghost use Rattle.cm_scan.specs.laws.CutExamples.{CutSingleExamples, CutTextExamples};
-ghost use Rattle.cm_scan.specs.laws.CutLaws.{OneCut, PlainTextsAreSources, SinglesAreWritten, SourcesAreCut};
+ghost use Rattle.cm_scan.specs.laws.CutExamples.{CutSingleExamples, CutTextExamples, PlaceExamples};
+ghost use Rattle.cm_scan.specs.laws.CutLaws.{OneCut, PlainTextsAreSources, SinglesAreWritten};
+ghost use Rattle.cm_scan.specs.laws.CutLaws.{SourcesAreCut, TailsAreWritten};
 ghost use Rattle.cm_scan.specs.inlines.Places.{PlacesAreNested, PlacesAreSources, PlacesAreWithin};
 
 /// The source of each leaf is cut into its inlines, in one way: each has a piece of the source that is read as
@@ -12,11 +13,13 @@ pub fn sources_are_cut()
     ensures one { OneCut }
 {}
 
-/// A text without escapes and references is its source, and code spans, autolinks, raw HTML and line breaks
-/// are written between their marks.
+/// A text without escapes and references is its source. Code spans and autolinks are between their marks, raw
+/// HTML is as it is written, and a link or an image ends with its `]` or with what is in parentheses or
+/// brackets after it.
 pub fn sources_are_written()
     ensures text { PlainTextsAreSources }
     ensures single { SinglesAreWritten }
+    ensures tail { TailsAreWritten }
 {}
 
 /// Worked examples of sources and their pieces, by computation.
@@ -25,6 +28,7 @@ pub fn cut_examples()
     ensures emphasis { CutEmphasisExamples }
     ensures link { CutLinkExamples }
     ensures single { CutSingleExamples }
+    ensures place { PlaceExamples }
 {}
 
 /// The places of inlines are nested: each is inside the ones before it or after them. The bytes at each place

@@ -1,11 +1,12 @@
 -- Worked examples: sources cut into their inlines (CommonMark 0.31.2, chapters 2 and 6).
-use Rattle.std.specs.Prelude.{ℕ, true, false, List, [], ◌∷◌, codes}
+use Rattle.std.specs.Prelude.{◌≡◌, ℕ, true, false, List, [], ◌∷◌, map, codes}
 use Rattle.std.specs.Str.{byte}
 use Rattle.cm_text.specs.Rules.{Rules, profile}
 use Rattle.cm_tree.specs.Definitions.{Target, first_under}
 use Rattle.cm_tree.specs.declared.tree.Inline.TheVariants.{Text, Code, Html, Soft, Hard, Link}
 use Rattle.cm_scan.specs.inlines.Inlines.{inlines_of}
 use Rattle.cm_scan.specs.inlines.Cuts.{Node, words, single, emphasis, bracketed, Nodes, none, node, CutInto}
+use Rattle.cm_scan.specs.inlines.Places.{Place, places_of}
 use Rattle.cm_scan.specs.laws.InlineExamples.{struck}
 
 -- By these rules, and in a document with these definitions, the source is cut into these nodes, and has their inlines.
@@ -87,3 +88,15 @@ pub record CutSingleExamples : Type 0 where
   pub backslash : Cuts (codes "a\\\nb") (three (plain (codes "a")) (single Hard (codes "\\\n")) (plain (codes "b")))
   pub one_space : Cuts (codes "a \nb") (three (plain (codes "a")) (single Soft (codes " \n")) (plain (codes "b")))
   pub code_span_in_emphasis : Cuts (codes "*`a*`*") (one (star (one (single (Code (codes "a*")) (codes "`a*`")))))
+
+-- The nodes start and end at these places, each before those inside it.
+abbrev pub StandAt : Nodes → List (ℕ × ℕ) → Type 0
+StandAt nodes places = map (λ (place : Place). (place.start, place.end)) (places_of nodes) ≡ places
+
+-- Places of some of these nodes.
+pub record PlaceExamples : Type 0 where
+  pub escape_and_reference : StandAt (one (words (codes "a*b & c") (codes "a\\*b &amp; c"))) ((0, 12) ∷ [])
+  pub nested : StandAt (one (star (two (plain (codes "a ")) (stars (one (plain (codes "b"))))))) ((0, 9) ∷ (1, 3) ∷ (3, 8) ∷ (5, 6) ∷ [])
+  pub titled : StandAt (two (link (codes "b") (codes "c") (one (plain (codes "a"))) (codes "(b \"c\")")) (plain (codes "d"))) ((0, 10) ∷ (1, 2) ∷ (10, 11) ∷ [])
+  pub image_in_a_link : StandAt (one (link (codes "c") [] (one (image (codes "b") [] (one (plain (codes "a"))) (codes "(b)"))) (codes "(c)"))) ((0, 12) ∷ (1, 8) ∷ (3, 4) ∷ [])
+  pub raw_html : StandAt (three (plain (codes "a")) (single (Html (codes "<b>")) (codes "<b>")) (plain (codes "c"))) ((0, 1) ∷ (1, 4) ∷ (4, 5) ∷ [])

@@ -9,7 +9,7 @@ use Rattle.cm_tree.specs.declared.tree.Inline.TheVariants.{Text}
 use Rattle.cm_scan.specs.spans.CodeSpans.{one_line, stripped}
 use Rattle.cm_scan.specs.inlines.Brackets.{Defined}
 use Rattle.cm_scan.specs.inlines.Inlines as inlines
-use Rattle.cm_scan.specs.inlines.Cuts.{Nodes, words, single, IsCut, CutInto}
+use Rattle.cm_scan.specs.inlines.Cuts.{Nodes, words, single, bracketed, IsCut, CutInto}
 
 -- The source of each leaf is cut into the inlines that are read from it.
 abbrev pub SourcesAreCut : Type 0
@@ -29,6 +29,10 @@ abbrev pub PlainTextsAreSources : Type 0
 PlainTextsAreSources = (rules : Rules) (defined : Defined) (text source after : List ℕ) → IsCut rules defined (words text source) after
     → list_all is_itself source ≡ true → text ≡ source
 
+-- a text that is between these words, with them
+abbrev pub IsBetween : (front back text : List ℕ) → Type 0
+IsBetween front back text = (inside : List ℕ) × (text ≡ front ++ (inside ++ back))
+
 -- How an inline without inlines inside is written: a code span as its content between two backtick strings of equal length; an
 -- autolink as its text between `<` and `>`; raw HTML as it is; a soft line break as a line feed after at most one space; and a hard
 -- line break as a line feed after two spaces or more, or after a backslash.
@@ -44,3 +48,11 @@ IsWritten _ source = ⊥
 abbrev pub SinglesAreWritten : Type 0
 SinglesAreWritten = (rules : Rules) (defined : Defined) (inline : Inline) (source after : List ℕ) → IsCut rules defined (single inline source) after
     → IsWritten (out-Inline inline) source
+
+-- what follows the `]` of a link or an image: nothing, or a part in parentheses or in brackets
+abbrev pub IsTail : List ℕ → Type 0
+IsTail tail = (tail ≡ []) ⊎ IsBetween (codes "(") (codes ")") tail ⊎ IsBetween (codes "[") (codes "]") tail
+
+abbrev pub TailsAreWritten : Type 0
+TailsAreWritten = (rules : Rules) (defined : Defined) (image : Bool) (dest title : List ℕ) (inside : Nodes) (tail after : List ℕ)
+    → IsCut rules defined (bracketed image dest title inside tail) after → IsTail tail

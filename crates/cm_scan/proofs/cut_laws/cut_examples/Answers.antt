@@ -1,5 +1,6 @@
 use Rattle.std.proofs.Common.{refl}
 use Rattle.cm_scan.specs.inlines.Cuts.{inline_of, inlines_of, source_of, sources_of, resolved}
+use Rattle.cm_scan.specs.inlines.Places.{places_at, places_from}
 use Rattle.cm_scan.proofs.lemmas.InlineComputing.{inline_structure}
 use Rattle.cm_scan.proofs.cut_laws.cut_examples.Goals as goal
 
@@ -53,3 +54,7 @@ returns-clause-single c = record {
   one_space = record { inlines_are = refl; whole = refl; cut = ((1, refl), (refl, ((1, refl), tt))) };
   code_span_in_emphasis = record { inlines_are = refl; whole = refl; cut = ((refl, (refl, tt)), tt) };
 }
+
+pub returns-clause-place : goal.returns-clause-place
+unfolding source_of sources_of places_at places_from
+returns-clause-place c = record { escape_and_reference = refl; nested = refl; titled = refl; image_in_a_link = refl; raw_html = refl }

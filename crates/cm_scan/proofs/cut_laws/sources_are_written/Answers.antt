@@ -1,4 +1,4 @@
-use Rattle.cm_scan.proofs.lemmas.cuts.OneCut.{plain_texts_are_sources, singles_are_written}
+use Rattle.cm_scan.proofs.lemmas.cuts.OneCut.{plain_texts_are_sources, singles_are_written, tails_are_written}
 use Rattle.cm_scan.proofs.cut_laws.sources_are_written.Goals as goal
 
 pub returns-clause-text : goal.returns-clause-text
@@ -6,3 +6,6 @@ returns-clause-text c = plain_texts_are_sources
 
 pub returns-clause-single : goal.returns-clause-single
 returns-clause-single c = singles_are_written
+
+pub returns-clause-tail : goal.returns-clause-tail
+returns-clause-tail c = tails_are_written

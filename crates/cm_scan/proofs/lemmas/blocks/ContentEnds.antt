@@ -19,7 +19,8 @@ content-after [] = refl
 content-after (b ∷ bs) = go (b == 32 || b == 9) (content-after bs)
   where
     go : (v : Bool) → after_indent bs ≡ trim_start bs
-        → elim v as (λ _. List ℕ) [ true ↦ after_indent bs | false ↦ b ∷ bs ] ≡ elim v as (λ _. List ℕ) [ true ↦ trim_start bs | false ↦ b ∷ bs ]
+        → elim v as (λ _. List ℕ) [ true ↦ after_indent bs | false ↦ b ∷ bs ] ≡ elim v as (λ _. List ℕ)
+        [ true ↦ trim_start bs | false ↦ b ∷ bs ]
     go true e = e
     go false e = refl
 
@@ -33,7 +34,8 @@ past-ends : (n m : ℕ) (line : LineView) → EndsLine (strip_columns n (past m 
 unfolding past
 past-ends n m line =
     let dropped = drop m (content_of line) in
-    let end = same-left (trim_start dropped) (content_of (strip_columns n (past m line))) (sym (content-stripped n (past m line))) (end-of-end (drop-end m (content_of line)) (skip-end is_space_or_tab dropped)) in
+    let end = same-left (trim_start dropped) (content_of (strip_columns n (past m line))) (sym (content-stripped n (past m line)))
+    (end-of-end (drop-end m (content_of line)) (skip-end is_space_or_tab dropped)) in
     (end.front, end.is)
 
 pub content_ends_text : ContentEndsText
@@ -73,7 +75,8 @@ pub staying_in_item_ends_line : StayingInItemEndsLine
 unfolding continuation_in_item
 staying_in_item_ends_line rules column bare line = go line.lazy
   where
-    by : (blank bare reaches : Bool) → EndsIfInside (item_continuation blank bare reaches (strip_columns column line) (continuation_if_lazy rules line)) line
+    by : (blank bare reaches : Bool)
+        → EndsIfInside (item_continuation blank bare reaches (strip_columns column line) (continuation_if_lazy rules line)) line
     by true true reaches = tt
     by true false reaches = stripped-ends column line
     by false bare true = stripped-ends column line
@@ -81,7 +84,8 @@ staying_in_item_ends_line rules column bare line = go line.lazy
 
     go : (v : Bool) → EndsIfInside (elim v as (λ _. Continuation) [
       | true ↦ continuation_if_lazy rules line
-      | false ↦ item_continuation (is_blank line) bare (nat_le column (indent_of line)) (strip_columns column line) (continuation_if_lazy rules line)
+      | false ↦ item_continuation (is_blank line) bare (nat_le column (indent_of line)) (strip_columns column line)
+          (continuation_if_lazy rules line)
     ]) line
     go true = lazy-ends rules line
     go false = by (is_blank line) bare (nat_le column (indent_of line))

@@ -70,11 +70,13 @@ takes-whole inline rest b bs written end = record {
   law = subst (IsWritten (out-Inline inline)) (piece-is b bs end.front rest written.source end.is written.is) written.law;
 }
 
-takes-plain : (t rest : List ℕ) (b : ℕ) (bs : List ℕ) → ((taken : List ℕ) → bs ≡ taken ++ rest → IsTextOf t (b ∷ taken) rest) → Takes (read (Plain t) rest) b bs
+takes-plain : (t rest : List ℕ) (b : ℕ) (bs : List ℕ) → ((taken : List ℕ) → bs ≡ taken ++ rest → IsTextOf t (b ∷ taken) rest)
+    → Takes (read (Plain t) rest) b bs
 unfolding Takes
 takes-plain t rest b bs law end = record { taken = end.front; is = end.is; law = law end.front end.is }
 
-takes-this : (atom : Atom) (rest taken : List ℕ) (b : ℕ) (bs : List ℕ) → bs ≡ taken ++ rest → AtomLaw atom (b ∷ taken) rest → Takes (read atom rest) b bs
+takes-this : (atom : Atom) (rest taken : List ℕ) (b : ℕ) (bs : List ℕ) → bs ≡ taken ++ rest → AtomLaw atom (b ∷ taken) rest
+    → Takes (read atom rest) b bs
 unfolding Takes
 takes-this atom rest taken b bs is law end = record { taken = taken; is = is; law = law }
 
@@ -92,7 +94,8 @@ unfolding after_run
 run-rest marker b bs e = ap (λ c. elim c as (λ _. List ℕ) [ true ↦ after_run marker bs | false ↦ b ∷ bs ]) e
 
 -- a run that starts nothing is text
-text-run : (marker b : ℕ) (bs : List ℕ) → is_itself marker ≡ true → Takes (read (Plain (replicate (run_length marker (b ∷ bs)) marker)) (after_run marker (b ∷ bs))) b bs
+text-run : (marker b : ℕ) (bs : List ℕ) → is_itself marker ≡ true
+    → Takes (read (Plain (replicate (run_length marker (b ∷ bs)) marker)) (after_run marker (b ∷ bs))) b bs
 text-run marker b bs its =
     takes-plain run rest b bs (λ taken is. subst (λ s. IsTextOf run s rest) (piece-is b bs taken rest run is (run-whole marker (b ∷ bs))) (run-itself (run_length marker (b ∷ bs)) marker rest its))
   where
@@ -137,8 +140,10 @@ escaped-itself (b ∷ c ∷ rest) escaped e = go (b == 92) (is_ascii_punct c) re
     low : is_ascii_punct c ≡ true → c < 128
     low h = grind (arith, nat_tests, h)
 
-    go : (v w : Bool) → is_ascii_punct c ≡ w → (if v && w then Some (c ∷ [], 2) else None) ≡ Some escaped → encode_utf8_all escaped.0 ≡ escaped.0
-    go true true h e = subst (λ (p : List ℕ × ℕ). encode_utf8_all p.0 ≡ p.0) (same_Some (c ∷ [], 2) escaped e) (ap (λ t. t ++ []) (encode_ascii c (low h)))
+    go : (v w : Bool) → is_ascii_punct c ≡ w → (if v && w then Some (c ∷ [], 2) else None) ≡ Some escaped
+        → encode_utf8_all escaped.0 ≡ escaped.0
+    go true true h e =
+        subst (λ (p : List ℕ × ℕ). encode_utf8_all p.0 ≡ p.0) (same_Some (c ∷ [], 2) escaped e) (ap (λ t. t ++ []) (encode_ascii c (low h)))
     go true false h e = none-some e
     go false w h e = none-some e
 
@@ -149,15 +154,18 @@ backslash-takes b bs h = go (after_word (codes "\\\n") (b ∷ bs)) refl (escape 
     no-reference : reference (b ∷ bs) ≡ None
     no-reference = reference-none (b ∷ bs) (ap (λ c. c == 38) (eqb-true b 92 h))
 
-    go : (o : Option (List ℕ)) → after_word (codes "\\\n") (b ∷ bs) ≡ o → (p : Option (List ℕ × ℕ)) → escape (b ∷ bs) ≡ p → Takes (elim o as (λ _. Option AtomRead) [
-      | Some rest ↦ read (Whole Hard) rest
-      | None ↦ elim p as (λ _. Option AtomRead) [ Some escaped ↦ read (Plain escaped.0) (drop escaped.1 (b ∷ bs)) | None ↦ None ]
-    ]) b bs
+    go : (o : Option (List ℕ)) → after_word (codes "\\\n") (b ∷ bs) ≡ o → (p : Option (List ℕ × ℕ)) → escape (b ∷ bs) ≡ p
+        → Takes (elim o as (λ _. Option AtomRead) [
+          | Some rest ↦ read (Whole Hard) rest
+          | None ↦ elim p as (λ _. Option AtomRead) [ Some escaped ↦ read (Plain escaped.0) (drop escaped.1 (b ∷ bs)) | None ↦ None ]
+        ]) b bs
     go (Some rest) f p g = takes-whole Hard rest b bs (backslash-written (b ∷ bs) rest f)
     go None f None g = takes-none b bs (special-reference (b ∷ bs) (sym g) ∙ no-reference)
     go None f (Some escaped) g = takes-plain escaped.0 (drop escaped.1 (b ∷ bs)) b bs (λ taken is.
         subst (λ t. IsTextOf t (b ∷ taken) (drop escaped.1 (b ∷ bs))) (escaped-itself (b ∷ bs) escaped g)
-        (special-text b taken (drop escaped.1 (b ∷ bs)) escaped.0 escaped.1 (ap (λ t. special (b ∷ t)) (sym is) ∙ sym (special-escape (b ∷ bs) escaped.0 escaped.1 (sym g))) (ap (λ t. drop escaped.1 (b ∷ t)) (sym is))))
+        (special-text b taken (drop escaped.1 (b ∷ bs)) escaped.0 escaped.1
+        (ap (λ t. special (b ∷ t)) (sym is) ∙ sym (special-escape (b ∷ bs) escaped.0 escaped.1 (sym g)))
+        (ap (λ t. drop escaped.1 (b ∷ t)) (sym is))))
 
 reference-takes : (b : ℕ) (bs : List ℕ) → (b == 38) ≡ true → Takes (reference_atom (b ∷ bs)) b bs
 unfolding reference_atom
@@ -174,7 +182,8 @@ reference-takes b bs h = go (reference (b ∷ bs)) refl
         → Takes (elim o as (λ _. Option AtomRead) [ Some found ↦ read (Plain (encode_utf8_all found.0)) (drop found.1 (b ∷ bs)) | None ↦ None ]) b bs
     go None f = takes-none b bs (same ∙ f)
     go (Some found) f = takes-plain (encode_utf8_all found.0) (drop found.1 (b ∷ bs)) b bs (λ taken is.
-        special-text b taken (drop found.1 (b ∷ bs)) found.0 found.1 (ap (λ t. special (b ∷ t)) (sym is) ∙ same ∙ f) (ap (λ t. drop found.1 (b ∷ t)) (sym is)))
+        special-text b taken (drop found.1 (b ∷ bs)) found.0 found.1 (ap (λ t. special (b ∷ t)) (sym is) ∙ same ∙ f)
+        (ap (λ t. drop found.1 (b ∷ t)) (sym is)))
 
 break-takes : (b : ℕ) (bs : List ℕ) → (b == 10 || b == 32) ≡ true → Takes (break_atom (b ∷ bs)) b bs
 unfolding break_atom
@@ -185,12 +194,16 @@ break-takes b bs h = go (after_word (codes "\n") (after_run 32 (b ∷ bs))) refl
     go None e = takes-none b bs (plain-byte b bs (grind (arith, nat_tests, h)))
     go (Some rest) e = takes-whole (if nat_le 2 (run_length 32 (b ∷ bs)) then Hard else Soft) rest b bs (break-written (b ∷ bs) rest e)
 
-run-takes : (rules : Rules) (before : List ℕ) (character b : ℕ) (bs : List ℕ) → (b == character) ≡ true → may_be_left character (run_length character (b ∷ bs)) ≡ true → Takes (run_atom rules before character (b ∷ bs)) b bs
+run-takes : (rules : Rules) (before : List ℕ) (character b : ℕ) (bs : List ℕ) → (b == character) ≡ true
+    → may_be_left character (run_length character (b ∷ bs)) ≡ true → Takes (run_atom rules before character (b ∷ bs)) b bs
 unfolding run_atom run_between
 run-takes rules before character b bs h fits =
     takes-this (Delimiter run) (after_run character (b ∷ bs)) (replicate (run_length character bs) character) b bs
-    (run-whole character bs ∙ ap (λ t. replicate (run_length character bs) character ++ t) (sym (run-rest character b bs h)))
-    (ap (λ x. x ∷ replicate (run_length character bs) character) (eqb-true b character h) ∙ ap (λ n. replicate n character) (sym (run-some character b bs h)), fits)
+    (run-whole character bs ∙ ap (λ t. replicate (run_length character bs) character ++ t) (sym (run-rest character b bs h))) (
+      ap (λ x. x ∷ replicate (run_length character bs) character) (eqb-true b character h) ∙ ap (λ n. replicate n character)
+          (sym (run-some character b bs h)),
+      fits,
+    )
   where
     run : Run
     run = run_between rules character (run_length character (b ∷ bs)) before (after_run character (b ∷ bs))
@@ -219,14 +232,16 @@ bang-takes : (b : ℕ) (bs : List ℕ) → (b == 33) ≡ true → Takes (bang_at
 unfolding bang_atom
 bang-takes b bs h = go (after_word (codes "![") (b ∷ bs)) refl
   where
-    go : (o : Option (List ℕ)) → after_word (codes "![") (b ∷ bs) ≡ o → Takes (elim o as (λ _. Option AtomRead) [ Some rest ↦ read (OpenBracket true) rest | None ↦ None ]) b bs
+    go : (o : Option (List ℕ))
+        → after_word (codes "![") (b ∷ bs) ≡ o → Takes (elim o as (λ _. Option AtomRead) [ Some rest ↦ read (OpenBracket true) rest | None ↦ None ]) b bs
     go (Some rest) f =
         let whole = word-front (codes "![") (b ∷ bs) rest f in
         takes-this (OpenBracket true) rest (91 ∷ []) b bs (ap other_bytes whole) (ap (λ x. x ∷ 91 ∷ []) (ap first_byte whole))
     go None f = takes-none b bs (plain-is b 33 bs h refl)
 
 -- one case after another
-or-else : (c : Bool) (o p : Option AtomRead) (b : ℕ) (bs : List ℕ) → (c ≡ true → Takes o b bs) → (c ≡ false → Takes p b bs) → Takes (if c then o else p) b bs
+or-else : (c : Bool) (o p : Option AtomRead) (b : ℕ) (bs : List ℕ) → (c ≡ true → Takes o b bs) → (c ≡ false → Takes p b bs)
+    → Takes (if c then o else p) b bs
 or-else true o p b bs h k = h refl
 or-else false o p b bs h k = k refl
 
@@ -245,7 +260,8 @@ markup-takes rules before b bs markup =
     or-else (b == 33) _ _ b bs (bang-takes b bs) (λ h6.
     or-else (b == 91) _ _ b bs (λ h. takes-this (OpenBracket false) bs [] b bs refl (ap (λ x. x ∷ []) (eqb-true b 91 h))) (λ h7.
     or-else (b == 93) _ _ b bs (λ h. takes-this CloseBracket bs [] b bs refl (ap (λ x. x ∷ []) (eqb-true b 93 h))) (λ h8.
-    run-takes rules before b b bs (itself b) (fits (run_length b bs) (run-some b b bs (itself b)) (grind (arith, nat_tests, markup, h0, h1, h2, h3, h4, h5, h6, h7, h8))))))))))))
+    run-takes rules before b b bs (itself b)
+    (fits (run_length b bs) (run-some b b bs (itself b)) (grind (arith, nat_tests, markup, h0, h1, h2, h3, h4, h5, h6, h7, h8))))))))))))
   where
     fits : (n : ℕ) → run_length b (b ∷ bs) ≡ suc n → (b == 42 || b == 95) ≡ true → may_be_left b (run_length b (b ∷ bs)) ≡ true
     fits n e h = grind (arith, nat_tests, e, h)
@@ -254,20 +270,24 @@ pub atom-takes : (rules : Rules) (before : List ℕ) (b : ℕ) (bs : List ℕ) �
 unfolding atom_at Takes
 atom-takes rules before b bs = go (is_markup b) refl (atom-left rules before b bs).end
   where
-    go : (v : Bool) → is_markup b ≡ v → IsEnd (elim v as (λ _. AtomRead) [ true ↦ or_byte b bs (markup_atom rules before b bs) | false ↦ byte_atom b bs ]).rest bs
+    go : (v : Bool) → is_markup b ≡ v
+        → IsEnd (elim v as (λ _. AtomRead) [ true ↦ or_byte b bs (markup_atom rules before b bs) | false ↦ byte_atom b bs ]).rest bs
         → Took b bs (elim v as (λ _. AtomRead) [ true ↦ or_byte b bs (markup_atom rules before b bs) | false ↦ byte_atom b bs ])
     go true e end = markup-takes rules before b bs e end
     go false e end = takes-byte b bs (plain-byte b bs (grind (arith, nat_tests, e)))
 
 -- an inline without inlines inside is the same whatever comes before it
 Alike : Option AtomRead → Option AtomRead → ℕ → List ℕ → Type 0
-Alike o p b bs = (inline : Inline) (rest : List ℕ) → or_byte b bs o ≡ record { atom = Whole inline; rest = rest } → or_byte b bs p ≡ record { atom = Whole inline; rest = rest }
+Alike o p b bs =
+    (inline : Inline) (rest : List ℕ) → or_byte b bs o ≡ record { atom = Whole inline; rest = rest }
+    → or_byte b bs p ≡ record { atom = Whole inline; rest = rest }
 
 alike-same : (o : Option AtomRead) (b : ℕ) (bs : List ℕ) → Alike o o b bs
 unfolding Alike
 alike-same o b bs inline rest e = e
 
-alike-else : (c : Bool) (o p q : Option AtomRead) (b : ℕ) (bs : List ℕ) → Alike p q b bs → Alike (if c then o else p) (if c then o else q) b bs
+alike-else : (c : Bool) (o p q : Option AtomRead) (b : ℕ) (bs : List ℕ) → Alike p q b bs
+    → Alike (if c then o else p) (if c then o else q) b bs
 unfolding Alike
 alike-else true o p q b bs h = λ inline rest e. e
 alike-else false o p q b bs h = h
@@ -276,11 +296,13 @@ abbrev pub is_whole : Atom → Bool
 is_whole (Whole inline) = true
 is_whole _ = false
 
-alike-run : (rules : Rules) (before : List ℕ) (character b : ℕ) (bs : List ℕ) (p : Option AtomRead) → Alike (run_atom rules before character (b ∷ bs)) p b bs
+alike-run : (rules : Rules) (before : List ℕ) (character b : ℕ) (bs : List ℕ) (p : Option AtomRead)
+    → Alike (run_atom rules before character (b ∷ bs)) p b bs
 unfolding Alike run_atom
 alike-run rules before character b bs p inline rest e = absurd (false≢true (ap (λ (a : AtomRead). is_whole a.atom) e))
 
-alike-tilde : (rules : Rules) (before : List ℕ) (b : ℕ) (bs : List ℕ) → Alike (tilde_atom rules before (b ∷ bs)) (tilde_atom rules [] (b ∷ bs)) b bs
+alike-tilde : (rules : Rules) (before : List ℕ) (b : ℕ) (bs : List ℕ)
+    → Alike (tilde_atom rules before (b ∷ bs)) (tilde_atom rules [] (b ∷ bs)) b bs
 unfolding tilde_atom
 alike-tilde rules before b bs = go (rules.strike && run_length 126 (b ∷ bs) == 2)
   where
@@ -292,7 +314,8 @@ alike-tilde rules before b bs = go (rules.strike && run_length 126 (b ∷ bs) ==
     go true = alike-run rules before 126 b bs _
     go false = alike-same plain b bs
 
-alike-markup : (rules : Rules) (before : List ℕ) (b : ℕ) (bs : List ℕ) → Alike (markup_atom rules before b bs) (markup_atom rules [] b bs) b bs
+alike-markup : (rules : Rules) (before : List ℕ) (b : ℕ) (bs : List ℕ)
+    → Alike (markup_atom rules before b bs) (markup_atom rules [] b bs) b bs
 unfolding markup_atom
 alike-markup rules before b bs =
     alike-else (b == 96) _ _ _ b bs (alike-else (b == 60) _ _ _ b bs (alike-else (b == 92) _ _ _ b bs
@@ -305,7 +328,9 @@ alike-markup rules before b bs =
 
     both : (c : Bool) → Alike (if c then tilde_atom rules before (b ∷ bs) else others before) (if c then tilde_atom rules [] (b ∷ bs) else others []) b bs
     both true = alike-tilde rules before b bs
-    both false = alike-else (b == 33) _ _ _ b bs (alike-else (b == 91) _ _ _ b bs (alike-else (b == 93) _ _ _ b bs (alike-run rules before b b bs _)))
+    both false =
+        alike-else (b == 33) _ _ _ b bs
+        (alike-else (b == 91) _ _ _ b bs (alike-else (b == 93) _ _ _ b bs (alike-run rules before b b bs _)))
 
 pub whole-anywhere : (rules : Rules) (before : List ℕ) (b : ℕ) (bs : List ℕ) (inline : Inline) (rest : List ℕ)
     → atom_at rules before b bs ≡ record { atom = Whole inline; rest = rest } → first_atom rules (b ∷ bs) ≡ read (Whole inline) rest
@@ -313,12 +338,17 @@ unfolding atom_at Alike
 whole-anywhere rules before b bs inline rest e = ap (λ (a : AtomRead). Some a) (go (is_markup b) e)
   where
     go : (v : Bool) → elim v as (λ _. AtomRead) [ true ↦ or_byte b bs (markup_atom rules before b bs) | false ↦ byte_atom b bs ] ≡ record { atom = Whole inline; rest = rest }
-        → elim v as (λ _. AtomRead) [ true ↦ or_byte b bs (markup_atom rules [] b bs) | false ↦ byte_atom b bs ] ≡ record { atom = Whole inline; rest = rest }
+        → elim v as (λ _. AtomRead) [ true ↦ or_byte b bs (markup_atom rules [] b bs) | false ↦ byte_atom b bs ] ≡ record {
+          atom =
+              Whole inline;
+          rest = rest;
+        }
     go true e = alike-markup rules before b bs inline rest e
     go false e = e
 
 -- and it is written as its kind is
-pub single-written : (rules : Rules) (source : List ℕ) (inline : Inline) (after : List ℕ) → first_atom rules (source ++ after) ≡ read (Whole inline) after → IsWritten (out-Inline inline) source
+pub single-written : (rules : Rules) (source : List ℕ) (inline : Inline) (after : List ℕ)
+    → first_atom rules (source ++ after) ≡ read (Whole inline) after → IsWritten (out-Inline inline) source
 single-written rules source inline after e = go (source ++ after) refl e
   where
     go : (text : List ℕ) → source ++ after ≡ text → first_atom rules text ≡ read (Whole inline) after → IsWritten (out-Inline inline) source

@@ -100,7 +100,8 @@ unfolding title title_in
 title-link true d t is = ap title_in (outs-Image d t is)
 title-link false d t is = ap title_in (outs-Link d t is)
 
-pub kind-emphasised : (character count : ℕ) (is : List Inline) → kind (emphasised character count is) ≡ (if character == 126 then 3 else (if count == 2 then 2 else 1))
+pub kind-emphasised : (character count : ℕ) (is : List Inline)
+    → kind (emphasised character count is) ≡ (if character == 126 then 3 else (if count == 2 then 2 else 1))
 unfolding kind kind_in
 kind-emphasised character count is = go (character == 126) (count == 2)
   where

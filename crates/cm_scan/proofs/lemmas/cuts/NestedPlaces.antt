@@ -23,7 +23,8 @@ abbrev IsWithin : (low high : ℕ) → Place → Type 0
 IsWithin low high p = (low ≤ p.start) × (p.start ≤ p.end) × (p.end ≤ high)
 
 wider : (low high l h : ℕ) → l ≤ low → high ≤ h → (ps : List Place) → Each (IsWithin low high) ps → Each (IsWithin l h) ps
-wider low high l h below above = each-weaker (IsWithin low high) (IsWithin l h) (λ p w. (omega (arith, below, w.0), w.1, omega (arith, above, w.2)))
+wider low high l h below above =
+    each-weaker (IsWithin low high) (IsWithin l h) (λ p w. (omega (arith, below, w.0), w.1, omega (arith, above, w.2)))
 
 emphasis-length : (c n : ℕ) (ns : Nodes) → length (source_of (emphasis c n ns)) ≡ n + (length (sources_of ns) + n)
 unfolding source_of
@@ -33,17 +34,21 @@ emphasis-length c n ns =
 bracketed-length : (image : Bool) (d t : List ℕ) (ns : Nodes) (tail : List ℕ)
     → length (source_of (bracketed image d t ns tail)) ≡ length (bracket_text image) + (length (sources_of ns) + suc (length tail))
 unfolding source_of
-bracketed-length image d t ns tail = omega (arith, length-append (bracket_text image) (sources_of ns ++ (93 ∷ tail)), length-append (sources_of ns) (93 ∷ tail))
+bracketed-length image d t ns tail =
+    omega (arith, length-append (bracket_text image) (sources_of ns ++ (93 ∷ tail)), length-append (sources_of ns) (93 ∷ tail))
 
 -- what is inside is within the place of a node, where so many bytes come before it
-inside-node : (start : ℕ) (n : Node) (front inside : ℕ) → front + inside ≤ length (source_of n) → (ps : List Place) → Each (IsWithin (start + front) (start + front + inside)) ps
+inside-node : (start : ℕ) (n : Node) (front inside : ℕ) → front + inside ≤ length (source_of n) → (ps : List Place)
+    → Each (IsWithin (start + front) (start + front + inside)) ps
     → Each (IsWithin start (start + length (source_of n))) ps
-inside-node start n front inside fits = wider (start + front) (start + front + inside) start (start + length (source_of n)) (omega arith) (omega (arith, fits))
+inside-node start n front inside fits =
+    wider (start + front) (start + front + inside) start (start + length (source_of n)) (omega arith) (omega (arith, fits))
 
 emphasis-fits : (c n : ℕ) (ns : Nodes) → n + length (sources_of ns) ≤ length (source_of (emphasis c n ns))
 emphasis-fits c n ns = omega (arith, emphasis-length c n ns)
 
-bracketed-fits : (image : Bool) (d t : List ℕ) (ns : Nodes) (tail : List ℕ) → length (bracket_text image) + length (sources_of ns) ≤ length (source_of (bracketed image d t ns tail))
+bracketed-fits : (image : Bool) (d t : List ℕ) (ns : Nodes) (tail : List ℕ)
+    → length (bracket_text image) + length (sources_of ns) ≤ length (source_of (bracketed image d t ns tail))
 bracketed-fits image d t ns tail = omega (arith, bracketed-length image d t ns tail)
 
 here : (start : ℕ) (n : Node) → IsWithin start (start + length (source_of n)) (place_at start n)
@@ -55,12 +60,16 @@ mutual
   within-node : (start : ℕ) (n : Node) → Each (IsWithin start (start + length (source_of n))) (places_at start n)
   within-node start (words t s) = (here start (words t s), tt)
   within-node start (single i s) = (here start (single i s), tt)
-  within-node start (emphasis c n ns) =
-      (here start (emphasis c n ns), inside-node start (emphasis c n ns) n (length (sources_of ns)) (emphasis-fits c n ns) (places_from (start + n) ns) (within-nodes (start + n) ns))
+  within-node start (emphasis c n ns) = (
+    here start (emphasis c n ns),
+    inside-node start (emphasis c n ns) n (length (sources_of ns)) (emphasis-fits c n ns)
+        (places_from (start + n) ns) (within-nodes (start + n) ns),
+  )
   within-node start (bracketed image d t ns tail) =
       let front = length (bracket_text image) in (
         here start (bracketed image d t ns tail),
-        inside-node start (bracketed image d t ns tail) front (length (sources_of ns)) (bracketed-fits image d t ns tail) (places_from (start + front) ns) (within-nodes (start + front) ns),
+        inside-node start (bracketed image d t ns tail) front (length (sources_of ns)) (bracketed-fits image d t ns tail)
+            (places_from (start + front) ns) (within-nodes (start + front) ns),
       )
 
   within-nodes : (start : ℕ) (ns : Nodes) → Each (IsWithin start (start + length (sources_of ns))) (places_from start ns)
@@ -71,11 +80,14 @@ mutual
       let whole = length-append (source_of n) (sources_of ns) in
       each-append (IsWithin start end) (places_at start n) (places_from middle ns)
       (wider start middle start end (omega arith) (omega (arith, whole)) (places_at start n) (within-node start n))
-      (wider middle (middle + length (sources_of ns)) start end (omega arith) (omega (arith, whole)) (places_from middle ns) (within-nodes middle ns))
+      (wider middle (middle + length (sources_of ns)) start end (omega arith) (omega (arith, whole)) (places_from middle ns)
+      (within-nodes middle ns))
 
 pub places_are_within : PlacesAreWithin
 places_are_within nodes =
-    All-from_recursion IsInSource (places_of nodes) (each-weaker (IsWithin 0 (0 + length (sources_of nodes))) IsInSource (λ p w. (w.1, omega (arith, w.2))) (places_of nodes) (within-nodes 0 nodes))
+    All-from_recursion IsInSource (places_of nodes)
+    (each-weaker (IsWithin 0 (0 + length (sources_of nodes))) IsInSource (λ p w. (w.1, omega (arith, w.2))) (places_of nodes)
+    (within-nodes 0 nodes))
   where
     IsInSource : Place → Type 0
     IsInSource p = (p.start ≤ p.end) × (p.end ≤ length (sources_of nodes))
@@ -89,17 +101,22 @@ nested-append : (ps qs : List Place) → AreNested ps → AreNested qs → Each 
 nested-append [] qs v w all = w
 nested-append (p ∷ ps) qs v w all = (All-append (IsInsideOrAfter p) ps qs v.0 all.0, nested-append ps qs v.1 w all.1)
 
-inside-here : (start : ℕ) (n : Node) (front inside : ℕ) → front + inside ≤ length (source_of n) → (ps : List Place) → Each (IsWithin (start + front) (start + front + inside)) ps
+inside-here : (start : ℕ) (n : Node) (front inside : ℕ) → front + inside ≤ length (source_of n) → (ps : List Place)
+    → Each (IsWithin (start + front) (start + front + inside)) ps
     → AllAfter ps (place_at start n)
 inside-here start n front inside fits ps all =
     All-from_recursion (IsInsideOrAfter (place_at start n)) ps
-    (each-weaker (IsWithin start (start + length (source_of n))) (IsInsideOrAfter (place_at start n)) (λ p w. (w.0, inl w.2)) ps (inside-node start n front inside fits ps all))
+    (each-weaker (IsWithin start (start + length (source_of n))) (IsInsideOrAfter (place_at start n)) (λ p w. (w.0, inl w.2)) ps
+    (inside-node start n front inside fits ps all))
 
-after-others : (start middle end : ℕ) (ps qs : List Place) → Each (IsWithin start middle) ps → Each (IsWithin middle end) qs → Each (AllAfter qs) ps
-after-others start middle end ps qs v w = each-weaker (IsWithin start middle) (AllAfter qs) (λ p u. All-from_recursion (IsInsideOrAfter p) qs (after p u)) ps v
+after-others : (start middle end : ℕ) (ps qs : List Place) → Each (IsWithin start middle) ps → Each (IsWithin middle end) qs
+    → Each (AllAfter qs) ps
+after-others start middle end ps qs v w =
+    each-weaker (IsWithin start middle) (AllAfter qs) (λ p u. All-from_recursion (IsInsideOrAfter p) qs (after p u)) ps v
   where
     after : (p : Place) → IsWithin start middle p → Each (IsInsideOrAfter p) qs
-    after p u = each-weaker (IsWithin middle end) (IsInsideOrAfter p) (λ q t. (omega (arith, u.1, u.2, t.0), inr (omega (arith, u.2, t.0)))) qs w
+    after p u =
+        each-weaker (IsWithin middle end) (IsInsideOrAfter p) (λ q t. (omega (arith, u.1, u.2, t.0), inr (omega (arith, u.2, t.0)))) qs w
 
 mutual
   unfolding places_at places_from
@@ -107,11 +124,15 @@ mutual
   nested-node : (start : ℕ) (n : Node) → AreNested (places_at start n)
   nested-node start (words t s) = (All-nil (IsInsideOrAfter (place_at start (words t s))), tt)
   nested-node start (single i s) = (All-nil (IsInsideOrAfter (place_at start (single i s))), tt)
-  nested-node start (emphasis c n ns) =
-      (inside-here start (emphasis c n ns) n (length (sources_of ns)) (emphasis-fits c n ns) (places_from (start + n) ns) (within-nodes (start + n) ns), nested-nodes (start + n) ns)
+  nested-node start (emphasis c n ns) = (
+    inside-here start (emphasis c n ns) n (length (sources_of ns)) (emphasis-fits c n ns) (places_from (start + n) ns)
+        (within-nodes (start + n) ns),
+    nested-nodes (start + n) ns,
+  )
   nested-node start (bracketed image d t ns tail) =
       let front = length (bracket_text image) in (
-        inside-here start (bracketed image d t ns tail) front (length (sources_of ns)) (bracketed-fits image d t ns tail) (places_from (start + front) ns) (within-nodes (start + front) ns),
+        inside-here start (bracketed image d t ns tail) front (length (sources_of ns)) (bracketed-fits image d t ns tail)
+            (places_from (start + front) ns) (within-nodes (start + front) ns),
         nested-nodes (start + front) ns,
       )
 
@@ -120,7 +141,8 @@ mutual
   nested-nodes start (node n ns) =
       let middle = start + length (source_of n) in
       nested-append (places_at start n) (places_from middle ns) (nested-node start n) (nested-nodes middle ns)
-      (after-others start middle (middle + length (sources_of ns)) (places_at start n) (places_from middle ns) (within-node start n) (within-nodes middle ns))
+      (after-others start middle (middle + length (sources_of ns)) (places_at start n) (places_from middle ns) (within-node start n)
+      (within-nodes middle ns))
 
 pub places_are_nested : PlacesAreNested
 places_are_nested nodes = nested-nodes 0 nodes
@@ -140,8 +162,10 @@ middle-of front s back =
     count = omega arith
 
 -- a text and a place given in another way
-given-as : (text other : List ℕ) (start from : ℕ) (ns : Nodes) → other ≡ text → from ≡ start → Each (IsSource other) (places_from from ns) → Each (IsSource text) (places_from start ns)
-given-as text other start from ns e f all = subst (λ t. Each (IsSource t) (places_from start ns)) e (subst (λ k. Each (IsSource other) (places_from k ns)) f all)
+given-as : (text other : List ℕ) (start from : ℕ) (ns : Nodes) → other ≡ text → from ≡ start → Each (IsSource other) (places_from from ns)
+    → Each (IsSource text) (places_from start ns)
+given-as text other start from ns e f all =
+    subst (λ t. Each (IsSource t) (places_from start ns)) e (subst (λ k. Each (IsSource other) (places_from k ns)) f all)
 
 within : (front mark inside end back : List ℕ) → (front ++ mark) ++ (inside ++ (end ++ back)) ≡ front ++ ((mark ++ (inside ++ end)) ++ back)
 within front mark inside end back = simp append_assoc refl
@@ -161,7 +185,8 @@ mutual
   source-node front back (emphasis c n ns) =
       let marks = replicate n c in (
         middle-of front (marks ++ (sources_of ns ++ marks)) back,
-        given-as _ _ (length front + n) _ ns (within front marks (sources_of ns) marks back) (length-append front marks ∙ ap (λ k. length front + k) (length-replicate n c))
+        given-as _ _ (length front + n) _ ns (within front marks (sources_of ns) marks back)
+            (length-append front marks ∙ ap (λ k. length front + k) (length-replicate n c))
             (source-nodes (front ++ marks) (marks ++ back) ns),
       )
   source-node front back (bracketed image d t ns tail) =
@@ -176,8 +201,10 @@ mutual
   source-nodes front back (node n ns) =
       let whole = front ++ ((source_of n ++ sources_of ns) ++ back) in
       each-append (IsSource whole) (places_at (length front) n) (places_from (length front + length (source_of n)) ns)
-      (subst (λ t. Each (IsSource t) (places_at (length front) n)) (together front (source_of n) (sources_of ns) back) (source-node front (sources_of ns ++ back) n))
-      (given-as whole _ (length front + length (source_of n)) _ ns (beyond front (source_of n) (sources_of ns) back) (length-append front (source_of n)) (source-nodes (front ++ source_of n) back ns))
+      (subst (λ t. Each (IsSource t) (places_at (length front) n)) (together front (source_of n) (sources_of ns) back)
+      (source-node front (sources_of ns ++ back) n))
+      (given-as whole _ (length front + length (source_of n)) _ ns (beyond front (source_of n) (sources_of ns) back)
+      (length-append front (source_of n)) (source-nodes (front ++ source_of n) back ns))
 
 pub places_are_sources : PlacesAreSources
 places_are_sources nodes =

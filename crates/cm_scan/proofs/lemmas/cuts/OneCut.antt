@@ -12,7 +12,8 @@ use Rattle.cm_scan.specs.inlines.Brackets.{Defined, LinkEnd, link_end, end_at}
 use Rattle.cm_scan.specs.inlines.Pairing.{bracket_text, emphasised}
 use Rattle.cm_scan.specs.Words.{after_word}
 use Rattle.cm_scan.specs.inlines.Cuts.{Node, words, single, emphasis, bracketed, Nodes, none, node, link_or_image, inline_of, inlines_of, source_of, sources_of, resolved, IsTextOf, first_atom, encloses, IsCut, AreCut, CutInto}
-use Rattle.cm_scan.specs.laws.CutLaws.{OneCut, PlainTextsAreSources, SinglesAreWritten}
+use Rattle.cm_scan.specs.laws.CutLaws.{OneCut, PlainTextsAreSources, SinglesAreWritten, IsTail, TailsAreWritten}
+use Rattle.cm_scan.proofs.lemmas.inlines.LeftByEachStep.{end_at-tail}
 use Rattle.cm_scan.proofs.lemmas.cuts.InlineParts.{kind, kind-written, text, content, dest, title, kind-text, text-text, kind-link, content-link, dest-link, title-link, kind-emphasised, content-emphasised}
 use Rattle.cm_scan.proofs.lemmas.cuts.ResolvedTexts.{same-end, taken_from, left_of, plain-text}
 use Rattle.cm_scan.proofs.lemmas.cuts.AtomsTaken.{is_whole, single-written}
@@ -29,10 +30,12 @@ text-end t s r a b same (n, e) (m, f) =
 other-kind : (i j : Inline) (n m : ℕ) → i ≡ j → kind i ≡ n → kind j ≡ m → n ≡ m
 other-kind i j n m e h k = sym h ∙ ap kind e ∙ k
 
-emphasis-kind : (character count : ℕ) (is : List Inline) → (1 ≤ kind (emphasised character count is)) × (kind (emphasised character count is) ≤ 3)
+emphasis-kind : (character count : ℕ) (is : List Inline)
+    → (1 ≤ kind (emphasised character count is)) × (kind (emphasised character count is) ≤ 3)
 emphasis-kind character count is = go (character == 126) (count == 2) (kind-emphasised character count is)
   where
-    go : (s t : Bool) → kind (emphasised character count is) ≡ (if s then 3 else (if t then 2 else 1)) → (1 ≤ kind (emphasised character count is)) × (kind (emphasised character count is) ≤ 3)
+    go : (s t : Bool) → kind (emphasised character count is) ≡ (if s then 3 else (if t then 2 else 1))
+        → (1 ≤ kind (emphasised character count is)) × (kind (emphasised character count is) ≤ 3)
     go true t e = (omega (arith, e), omega (arith, e))
     go false true e = (omega (arith, e), omega (arith, e))
     go false false e = (omega (arith, e), omega (arith, e))
@@ -47,14 +50,19 @@ text-emphasis t character count is e = absurd (omega (arith, kind-text t, ap kin
 text-link : (t : List ℕ) (image : Bool) (d u : List ℕ) (is : List Inline) → Text t ≡ link_or_image image d u is → ⊥
 text-link t image d u is e = absurd (omega (arith, kind-text t, ap kind e, link-kind image d u is))
 
-emphasis-link : (character count : ℕ) (js : List Inline) (image : Bool) (d u : List ℕ) (is : List Inline) → emphasised character count js ≡ link_or_image image d u is → ⊥
-emphasis-link character count js image d u is e = absurd (omega (arith, ap kind e, (emphasis-kind character count js).1, link-kind image d u is))
+emphasis-link : (character count : ℕ) (js : List Inline) (image : Bool) (d u : List ℕ) (is : List Inline)
+    → emphasised character count js ≡ link_or_image image d u is → ⊥
+emphasis-link character count js image d u is e =
+    absurd (omega (arith, ap kind e, (emphasis-kind character count js).1, link-kind image d u is))
 
 -- a bracket is no inline by itself
-bracket-alone : (rules : Rules) (image : Bool) (rest : List ℕ) (i : Inline) (a : List ℕ) → first_atom rules (bracket_text image ++ rest) ≡ read (Whole i) a → ⊥
+bracket-alone : (rules : Rules) (image : Bool) (rest : List ℕ) (i : Inline) (a : List ℕ)
+    → first_atom rules (bracket_text image ++ rest) ≡ read (Whole i) a → ⊥
 unfolding atom_at markup_atom bang_atom after_word
-bracket-alone rules true rest i a e = absurd (false≢true (ap (λ (x : AtomRead). is_whole x.atom) (same_Some (record { atom = OpenBracket true; rest = rest }) _ e)))
-bracket-alone rules false rest i a e = absurd (false≢true (ap (λ (x : AtomRead). is_whole x.atom) (same_Some (record { atom = OpenBracket false; rest = rest }) _ e)))
+bracket-alone rules true rest i a e =
+    absurd (false≢true (ap (λ (x : AtomRead). is_whole x.atom) (same_Some (record { atom = OpenBracket true; rest = rest }) _ e)))
+bracket-alone rules false rest i a e =
+    absurd (false≢true (ap (λ (x : AtomRead). is_whole x.atom) (same_Some (record { atom = OpenBracket false; rest = rest }) _ e)))
 
 -- Runs
 
@@ -72,7 +80,8 @@ first-of-run (suc n) b rest h = refl
 
 -- the marks are given by their first character, and by what they make
 same-count : (c n m : ℕ) (is js : List Inline) → encloses c n ≡ true → encloses c m ≡ true → emphasised c n is ≡ emphasised c m js → n ≡ m
-same-count c n m is js h k e = go (c == 126) refl (n == 2) refl (m == 2) refl (sym (kind-emphasised c n is) ∙ ap kind e ∙ kind-emphasised c m js)
+same-count c n m is js h k e =
+    go (c == 126) refl (n == 2) refl (m == 2) refl (sym (kind-emphasised c n is) ∙ ap kind e ∙ kind-emphasised c m js)
   where
     number : Bool → Bool → ℕ
     number t p = if t then 3 else (if p then 2 else 1)
@@ -95,14 +104,16 @@ module _ (rules : Rules) (defined : Defined) where
   same-source : (s r a b : List ℕ) → s ++ a ≡ r ++ b → a ≡ b → s ≡ r
   same-source s r a b same e = append_cancel_right s r b (ap (λ t. s ++ t) (sym e) ∙ same)
 
-  same-words : (t s u r a b : List ℕ) → Text t ≡ Text u → s ++ a ≡ r ++ b → IsTextOf t s a → IsTextOf u r b → Same (words t s) (words u r) a b
+  same-words : (t s u r a b : List ℕ) → Text t ≡ Text u → s ++ a ≡ r ++ b → IsTextOf t s a → IsTextOf u r b
+      → Same (words t s) (words u r) a b
   unfolding Same
   same-words t s u r a b i same w v =
       let is : t ≡ u = sym (text-text t) ∙ ap text i ∙ text-text u in
       let e : a ≡ b = text-end u s r a b same (subst (λ x. IsTextOf x s a) is w) v in
       (ap (λ x. words x s) is ∙ ap (λ x. words u x) (same-source s r a b same e), e)
 
-  same-single : (i : Inline) (s : List ℕ) (j : Inline) (r a b : List ℕ) → i ≡ j → s ++ a ≡ r ++ b → first_atom rules (s ++ a) ≡ read (Whole i) a → first_atom rules (r ++ b) ≡ read (Whole j) b
+  same-single : (i : Inline) (s : List ℕ) (j : Inline) (r a b : List ℕ) → i ≡ j → s ++ a ≡ r ++ b
+      → first_atom rules (s ++ a) ≡ read (Whole i) a → first_atom rules (r ++ b) ≡ read (Whole j) b
       → Same (single i s) (single j r) a b
   unfolding Same
   same-single i s j r a b is same w v =
@@ -111,10 +122,14 @@ module _ (rules : Rules) (defined : Defined) where
 
   -- where the inlines inside are the same, with what follows them
   abbrev SameInside : Nodes → Nodes → Type 0
-  SameInside ns ms = (a b : List ℕ) → inlines_of ns ≡ inlines_of ms → sources_of ns ++ a ≡ sources_of ms ++ b → AreCut rules defined ns a → AreCut rules defined ms b → (ns ≡ ms) × (a ≡ b)
+  SameInside ns ms =
+      (a b : List ℕ) → inlines_of ns ≡ inlines_of ms → sources_of ns ++ a ≡ sources_of ms ++ b → AreCut rules defined ns a
+      → AreCut rules defined ms b → (ns ≡ ms) × (a ≡ b)
 
-  same-emphasis : (c n : ℕ) (ns : Nodes) (d m : ℕ) (ms : Nodes) (a b : List ℕ) → SameInside ns ms → emphasised c n (inlines_of ns) ≡ emphasised d m (inlines_of ms)
-      → (replicate n c ++ (sources_of ns ++ replicate n c)) ++ a ≡ (replicate m d ++ (sources_of ms ++ replicate m d)) ++ b → Cut (emphasis c n ns) a → Cut (emphasis d m ms) b
+  same-emphasis : (c n : ℕ) (ns : Nodes) (d m : ℕ) (ms : Nodes) (a b : List ℕ) → SameInside ns ms
+      → emphasised c n (inlines_of ns) ≡ emphasised d m (inlines_of ms)
+      → (replicate n c ++ (sources_of ns ++ replicate n c)) ++ a ≡ (replicate m d ++ (sources_of ms ++ replicate m d)) ++ b
+      → Cut (emphasis c n ns) a → Cut (emphasis d m ms) b
       → Same (emphasis c n ns) (emphasis d m ms) a b
   unfolding Same first_byte
   same-emphasis c n ns d m ms a b inside i same w v = (
@@ -134,14 +149,16 @@ module _ (rules : Rules) (defined : Defined) where
           ∙ first-of-run m d (sources_of ms ++ (replicate m d ++ b)) (encloses-some d m v.0)
 
       count : n ≡ m
-      count = same-count d n m (inlines_of ns) (inlines_of ms) (ap (λ x. encloses x n) (sym character) ∙ w.0) v.0 (ap (λ x. emphasised x n (inlines_of ns)) (sym character) ∙ i)
+      count = same-count d n m (inlines_of ns) (inlines_of ms) (ap (λ x. encloses x n) (sym character) ∙ w.0) v.0
+          (ap (λ x. emphasised x n (inlines_of ns)) (sym character) ∙ i)
 
       marks : replicate n c ≡ replicate m d
       marks = ap (λ x. replicate n x) character ∙ ap (λ k. replicate k d) count
 
       content_same : (ns ≡ ms) × (replicate n c ++ a ≡ replicate m d ++ b)
       content_same =
-          inside (replicate n c ++ a) (replicate m d ++ b) (sym (content-emphasised c n (inlines_of ns)) ∙ ap content i ∙ content-emphasised d m (inlines_of ms))
+          inside (replicate n c ++ a) (replicate m d ++ b)
+          (sym (content-emphasised c n (inlines_of ns)) ∙ ap content i ∙ content-emphasised d m (inlines_of ms))
           (append_cancel_left (replicate n c) _ _ (whole ∙ ap (λ x. x ++ (sources_of ms ++ (replicate m d ++ b))) (sym marks))) w.1 v.1
 
   same-image : (i j : Bool) (d t e u : List ℕ) (is js : List Inline) → link_or_image i d t is ≡ link_or_image j e u js → i ≡ j
@@ -154,9 +171,11 @@ module _ (rules : Rules) (defined : Defined) where
   tail_of [] = []
   tail_of (b ∷ bs) = bs
 
-  same-bracketed : (i : Bool) (d t : List ℕ) (ns : Nodes) (s : List ℕ) (j : Bool) (e u : List ℕ) (ms : Nodes) (r a b : List ℕ) → SameInside ns ms
+  same-bracketed : (i : Bool) (d t : List ℕ) (ns : Nodes) (s : List ℕ) (j : Bool) (e u : List ℕ) (ms : Nodes) (r a b : List ℕ)
+      → SameInside ns ms
       → link_or_image i d t (inlines_of ns) ≡ link_or_image j e u (inlines_of ms)
-      → (bracket_text i ++ (sources_of ns ++ (93 ∷ s))) ++ a ≡ (bracket_text j ++ (sources_of ms ++ (93 ∷ r))) ++ b → Cut (bracketed i d t ns s) a → Cut (bracketed j e u ms r) b
+      → (bracket_text i ++ (sources_of ns ++ (93 ∷ s))) ++ a ≡ (bracket_text j ++ (sources_of ms ++ (93 ∷ r))) ++ b
+      → Cut (bracketed i d t ns s) a → Cut (bracketed j e u ms r) b
       → Same (bracketed i d t ns s) (bracketed j e u ms r) a b
   unfolding Same
   same-bracketed i d t ns s j e u ms r a b inside is same w v = (
@@ -182,15 +201,18 @@ module _ (rules : Rules) (defined : Defined) where
 
       content_same : (ns ≡ ms) × (93 ∷ (s ++ a) ≡ 93 ∷ (r ++ b))
       content_same =
-          inside (93 ∷ (s ++ a)) (93 ∷ (r ++ b)) (sym (content-link i d t (inlines_of ns)) ∙ ap content is ∙ content-link j e u (inlines_of ms))
-          (append_cancel_left (bracket_text i) _ _ (whole ∙ ap (λ x. bracket_text x ++ (sources_of ms ++ (93 ∷ (r ++ b)))) (sym image))) w.1 v.1
+          inside (93 ∷ (s ++ a)) (93 ∷ (r ++ b))
+          (sym (content-link i d t (inlines_of ns)) ∙ ap content is ∙ content-link j e u (inlines_of ms))
+          (append_cancel_left (bracket_text i) _ _
+          (whole ∙ ap (λ x. bracket_text x ++ (sources_of ms ++ (93 ∷ (r ++ b)))) (sym image))) w.1 v.1
 
       tails : s ++ a ≡ r ++ b
       tails = ap tail_of content_same.1
 
       ends : a ≡ b
       ends = ap (λ (x : LinkEnd). x.rest) (same_Some (link_end (d, t) a) (link_end (e, u) b)
-          (sym w.0 ∙ ap (λ x. end_at rules defined (sources_of x) (s ++ a)) content_same.0 ∙ ap (λ x. end_at rules defined (sources_of ms) x) tails ∙ v.0))
+          (sym w.0 ∙ ap (λ x. end_at rules defined (sources_of x) (s ++ a)) content_same.0 ∙ ap
+          (λ x. end_at rules defined (sources_of ms) x) tails ∙ v.0))
 
   apart : {A : Type 0} → ⊥ → A
   apart e = absurd e
@@ -201,11 +223,14 @@ module _ (rules : Rules) (defined : Defined) where
   alone-text : (s : List ℕ) (i : Inline) (a t : List ℕ) → i ≡ Text t → first_atom rules (s ++ a) ≡ read (Whole i) a → ⊥
   alone-text s i a t e h = absurd (omega (arith, alone-kind s i a h, ap kind e, kind-text t))
 
-  alone-emphasis : (s : List ℕ) (i : Inline) (a : List ℕ) (c n : ℕ) (is : List Inline) → i ≡ emphasised c n is → first_atom rules (s ++ a) ≡ read (Whole i) a → ⊥
+  alone-emphasis : (s : List ℕ) (i : Inline) (a : List ℕ) (c n : ℕ) (is : List Inline) → i ≡ emphasised c n is
+      → first_atom rules (s ++ a) ≡ read (Whole i) a → ⊥
   alone-emphasis s i a c n is e h = absurd (omega (arith, alone-kind s i a h, ap kind e, (emphasis-kind c n is).1))
 
-  alone-bracketed : (s : List ℕ) (i : Inline) (a : List ℕ) (image : Bool) (t b : List ℕ) → s ≡ (bracket_text image ++ t) ++ b → first_atom rules s ≡ read (Whole i) a → ⊥
-  alone-bracketed s i a image t b e h = bracket-alone rules image (t ++ b) i a (ap (first_atom rules) (sym (append_assoc (bracket_text image) t b) ∙ sym e) ∙ h)
+  alone-bracketed : (s : List ℕ) (i : Inline) (a : List ℕ) (image : Bool) (t b : List ℕ) → s ≡ (bracket_text image ++ t) ++ b
+      → first_atom rules s ≡ read (Whole i) a → ⊥
+  alone-bracketed s i a image t b e h =
+      bracket-alone rules image (t ++ b) i a (ap (first_atom rules) (sym (append_assoc (bracket_text image) t b) ∙ sym e) ∙ h)
 
   abbrev first_inline : Inline → List Inline → Inline
   first_inline i [] = i
@@ -218,11 +243,13 @@ module _ (rules : Rules) (defined : Defined) where
   mutual
     unfolding inline_of inlines_of source_of sources_of Same
 
-    same-node : (n m : Node) (a b : List ℕ) → inline_of n ≡ inline_of m → source_of n ++ a ≡ source_of m ++ b → Cut n a → Cut m b → Same n m a b
+    same-node : (n m : Node) (a b : List ℕ) → inline_of n ≡ inline_of m → source_of n ++ a ≡ source_of m ++ b → Cut n a → Cut m b
+        → Same n m a b
     same-node (words t s) (words u r) a b i same w v = same-words t s u r a b i same w v
     same-node (single i s) (single j r) a b is same w v = same-single i s j r a b is same w v
     same-node (emphasis c n ns) (emphasis d m ms) a b i same w v = same-emphasis c n ns d m ms a b (λ x y. same-nodes ns ms x y) i same w v
-    same-node (bracketed i d t ns s) (bracketed j e u ms r) a b is same w v = same-bracketed i d t ns s j e u ms r a b (λ x y. same-nodes ns ms x y) is same w v
+    same-node (bracketed i d t ns s) (bracketed j e u ms r) a b is same w v =
+        same-bracketed i d t ns s j e u ms r a b (λ x y. same-nodes ns ms x y) is same w v
     same-node (words t s) (single j r) a b i same w v = apart (alone-text r j b t (sym i) v)
     same-node (words t s) (emphasis d m ms) a b i same w v = apart (text-emphasis t d m _ i)
     same-node (words t s) (bracketed j e u ms r) a b i same w v = apart (text-link t j e u _ i)
@@ -236,20 +263,29 @@ module _ (rules : Rules) (defined : Defined) where
     same-node (bracketed i d t ns s) (single j r) a b is same w v = apart (alone-bracketed _ j b i _ a (sym same) v)
     same-node (bracketed i d t ns s) (emphasis c n ms) a b is same w v = apart (emphasis-link c n _ i d t _ (sym is))
 
-    same-nodes : (ns ms : Nodes) (a b : List ℕ) → inlines_of ns ≡ inlines_of ms → sources_of ns ++ a ≡ sources_of ms ++ b → AreCut rules defined ns a → AreCut rules defined ms b → (ns ≡ ms) × (a ≡ b)
+    same-nodes : (ns ms : Nodes) (a b : List ℕ) → inlines_of ns ≡ inlines_of ms → sources_of ns ++ a ≡ sources_of ms ++ b
+        → AreCut rules defined ns a → AreCut rules defined ms b → (ns ≡ ms) × (a ≡ b)
     same-nodes none none a b i same w v = (refl, same)
     same-nodes none (node m ms) a b i same w v = absurd (cc i)
     same-nodes (node n ns) none a b i same w v = absurd (cc i)
     same-nodes (node n ns) (node m ms) a b i same w v =
-        let first = same-node n m (sources_of ns ++ a) (sources_of ms ++ b) (ap (first_inline (inline_of n)) i) (sym (append_assoc (source_of n) (sources_of ns) a) ∙ same ∙ append_assoc (source_of m) (sources_of ms) b) w.0 v.0 in
+        let first = same-node n m (sources_of ns ++ a) (sources_of ms ++ b) (ap (first_inline (inline_of n)) i)
+        (sym (append_assoc (source_of n) (sources_of ns) a) ∙ same ∙ append_assoc (source_of m) (sources_of ms) b) w.0 v.0 in
         let others = same-nodes ns ms a b (ap other_inlines i) first.1 w.1 v.1 in
         (ap (λ x. node x ns) first.0 ∙ ap (λ x. node m x) others.0, others.1)
 
 pub one_cut : OneCut
-one_cut rules defined inlines source after nodes others w v = (same-nodes rules defined nodes others after after (w.inlines_are ∙ sym v.inlines_are) (ap (λ t. t ++ after) (w.whole ∙ sym v.whole)) w.cut v.cut).0
+one_cut rules defined inlines source after nodes others w v =
+    (same-nodes rules defined nodes others after after (w.inlines_are ∙ sym v.inlines_are)
+    (ap (λ t. t ++ after) (w.whole ∙ sym v.whole)) w.cut v.cut).0
 
 pub plain_texts_are_sources : PlainTextsAreSources
 plain_texts_are_sources rules defined text source after w h = plain-text source text after w h
 
 pub singles_are_written : SinglesAreWritten
 singles_are_written rules defined inline source after w = single-written rules source inline after w
+
+pub tails_are_written : TailsAreWritten
+tails_are_written rules defined image dest title inside tail after w =
+    let t = end_at-tail rules defined (sources_of inside) (tail ++ after) (link_end (dest, title) after) w.0 in
+    subst IsTail (append_cancel_right t.tail tail after (sym t.is)) t.law

@@ -59,7 +59,8 @@ is_nothing : List Item → Bool
 is_nothing [] = true
 is_nothing (i ∷ is) = false
 
-halves : (ps : List Placed) (front : List Item) (run : Run) (back : List Item) → items_of ps ≡ front ++ Delimiters run ∷ back → Halves ps front run back
+halves : (ps : List Placed) (front : List Item) (run : Run) (back : List Item) → items_of ps ≡ front ++ Delimiters run ∷ back
+    → Halves ps front run back
 unfolding items_of is_nothing
 halves [] [] run back e = absurd (cc e)
 halves [] (i ∷ front) run back e = absurd (cc e)
@@ -76,7 +77,8 @@ halves (p ∷ ps) (i ∷ front) run back e =
       before = p ∷ h.before;
       after = h.after;
       whole = ap (λ l. p ∷ l) h.whole;
-      fronts = ap (λ l. item_of p ∷ l) h.fronts ∙ ap (λ j. j ∷ front) (first-is (item_of p) i (items_of ps) (front ++ Delimiters run ∷ back) e);
+      fronts = ap (λ l. item_of p ∷ l) h.fronts
+          ∙ ap (λ j. j ∷ front) (first-is (item_of p) i (items_of ps) (front ++ Delimiters run ∷ back) e);
       backs = h.backs;
     }
 
@@ -97,12 +99,15 @@ pieces-left : (n : ℕ) (r : Run) → n ≤ r.left → pieces_of (left_of n r) +
 unfolding pieces_of left_of
 pieces-left n r h = go (nat_le r.left n) refl
   where
-    go : (b : Bool) → nat_le r.left n ≡ b → pieces_of (cond b [] (waiting (record r { left = r.left - n }) ∷ [])) ++ replicate n r.character ≡ replicate r.left r.character
+    go : (b : Bool) → nat_le r.left n ≡ b
+        → pieces_of (cond b [] (waiting (record r { left = r.left - n }) ∷ [])) ++ replicate n r.character ≡ replicate r.left r.character
     go true e = ap (λ k. replicate k r.character) all
       where
         all : n ≡ r.left
         all = grind (arith, e, h)
-    go false e = ap (λ t. t ++ replicate n r.character) (append-nil (replicate (r.left - n) r.character)) ∙ replicate-append-replicate (r.left - n) n r.character ∙ ap (λ k. replicate k r.character) all
+    go false e =
+        ap (λ t. t ++ replicate n r.character) (append-nil (replicate (r.left - n) r.character))
+        ∙ replicate-append-replicate (r.left - n) n r.character ∙ ap (λ k. replicate k r.character) all
       where
         all : (r.left - n) + n ≡ r.left
         all = omega (arith, h)
@@ -112,12 +117,15 @@ pieces-after : (n : ℕ) (r : Run) → n ≤ r.left → replicate n r.character 
 unfolding pieces_of left_of
 pieces-after n r h = go (nat_le r.left n) refl
   where
-    go : (b : Bool) → nat_le r.left n ≡ b → replicate n r.character ++ pieces_of (cond b [] (waiting (record r { left = r.left - n }) ∷ [])) ≡ replicate r.left r.character
+    go : (b : Bool) → nat_le r.left n ≡ b
+        → replicate n r.character ++ pieces_of (cond b [] (waiting (record r { left = r.left - n }) ∷ [])) ≡ replicate r.left r.character
     go true e = append-nil (replicate n r.character) ∙ ap (λ k. replicate k r.character) all
       where
         all : n ≡ r.left
         all = grind (arith, e, h)
-    go false e = ap (λ t. replicate n r.character ++ t) (append-nil (replicate (r.left - n) r.character)) ∙ replicate-append-replicate n (r.left - n) r.character ∙ ap (λ k. replicate k r.character) all
+    go false e =
+        ap (λ t. replicate n r.character ++ t) (append-nil (replicate (r.left - n) r.character))
+        ∙ replicate-append-replicate n (r.left - n) r.character ∙ ap (λ k. replicate k r.character) all
       where
         all : n + (r.left - n) ≡ r.left
         all = omega (arith, h)
@@ -141,17 +149,20 @@ used-fits l m p q = go (nat_le 2 l && nat_le 2 m) refl
     go true e = (grind (arith, nat_tests, e), grind (arith, nat_tests, e))
     go false e = (p, q)
 
-used-encloses : (character l m : ℕ) → may_be_left character l ≡ true → may_be_left character m ≡ true → encloses character (used_of l m) ≡ true
+used-encloses : (character l m : ℕ) → may_be_left character l ≡ true → may_be_left character m ≡ true
+    → encloses character (used_of l m) ≡ true
 used-encloses character l m h k = go (nat_le 2 l && nat_le 2 m) refl
   where
     go : (b : Bool) → (nat_le 2 l && nat_le 2 m) ≡ b → encloses character (cond b 2 1) ≡ true
     go true e = grind (arith, nat_tests, h)
     go false e = grind (arith, nat_tests, h, k, e)
 
-more-left : (character l n : ℕ) → may_be_left character l ≡ true → encloses character n ≡ true → nat_le l n ≡ false → may_be_left character (l - n) ≡ true
+more-left : (character l n : ℕ) → may_be_left character l ≡ true → encloses character n ≡ true → nat_le l n ≡ false
+    → may_be_left character (l - n) ≡ true
 more-left character l n h k e = grind (arith, nat_tests, h, k, e)
 
-regrouped : {A : Type 0} (pb lo r s lc pa : List A) → ((pb ++ lo) ++ ((r ++ (s ++ r)) ++ lc)) ++ pa ≡ (pb ++ ((lo ++ r) ++ s)) ++ ((r ++ lc) ++ pa)
+regrouped : {A : Type 0} (pb lo r s lc pa : List A)
+    → ((pb ++ lo) ++ ((r ++ (s ++ r)) ++ lc)) ++ pa ≡ (pb ++ ((lo ++ r) ++ s)) ++ ((r ++ lc) ++ pa)
 regrouped pb lo r s lc pa = simp append_assoc refl
 
 three : {A : Type 0} (m l a x : List A) → ((m ++ l) ++ a) ++ x ≡ m ++ (l ++ (a ++ x))
@@ -171,7 +182,8 @@ module _ (rules : Rules) (defined : Defined) where
 
   -- settling
 
-  cut-node : (n : Node) (inlines : List Inline) (source after : List ℕ) → IsCut rules defined n (source ++ after) → Cuts inlines source after → Cuts (inline_of n ∷ inlines) (source_of n ++ source) after
+  cut-node : (n : Node) (inlines : List Inline) (source after : List ℕ) → IsCut rules defined n (source ++ after)
+      → Cuts inlines source after → Cuts (inline_of n ∷ inlines) (source_of n ++ source) after
   unfolding inlines_of sources_of
   cut-node n inlines source after w c = record {
     nodes = node n c.nodes;
@@ -182,7 +194,8 @@ module _ (rules : Rules) (defined : Defined) where
     };
   }
 
-  cut-text : (u s : List ℕ) (inlines : List Inline) (source after : List ℕ) → IsTextOf u s (source ++ after) → Cuts inlines source after → Cuts (text_before u inlines) (s ++ source) after
+  cut-text : (u s : List ℕ) (inlines : List Inline) (source after : List ℕ) → IsTextOf u s (source ++ after) → Cuts inlines source after
+      → Cuts (text_before u inlines) (s ++ source) after
   unfolding inline_of source_of
   cut-text [] s inlines source after t c = subst (λ l. Cuts inlines (l ++ source) after) (sym (nothing-written s (source ++ after) t)) c
   cut-text (b ∷ bs) s inlines source after t c = cut-node (words (b ∷ bs) s) inlines source after t c
@@ -195,22 +208,30 @@ module _ (rules : Rules) (defined : Defined) where
   with-source inlines s t after e c = subst (λ l. Cuts inlines l after) e c
 
   -- a text before a piece with text
-  joined : (u s v r ps after : List ℕ) → IsTextOf u s ((r ++ ps) ++ after) → IsTextOf v r (ps ++ after) → IsTextOf (u ++ v) (s ++ r) (ps ++ after)
+  joined : (u s v r ps after : List ℕ) → IsTextOf u s ((r ++ ps) ++ after) → IsTextOf v r (ps ++ after)
+      → IsTextOf (u ++ v) (s ++ r) (ps ++ after)
   joined u s v r ps after t w = texts-joined u s v r (ps ++ after) (subst (IsTextOf u s) (append_assoc r ps after) t) w
 
-  cut-settled : (u s : List ℕ) (ps : List Placed) (after : List ℕ) → IsTextOf u s (pieces_of ps ++ after) → Are ps after → Cuts (settled_after u (items_of ps)) (s ++ pieces_of ps) after
+  cut-settled : (u s : List ℕ) (ps : List Placed) (after : List ℕ) → IsTextOf u s (pieces_of ps ++ after) → Are ps after
+      → Cuts (settled_after u (items_of ps)) (s ++ pieces_of ps) after
   unfolding settled_after items_of pieces_of
   cut-settled u s [] after t w = cut-text u s [] [] after t (cut-nothing after)
   cut-settled u s (characters v r ∷ ps) after t w =
-      with-source _ _ _ after (append_assoc s r (pieces_of ps)) (cut-settled (u ++ v) (s ++ r) ps after (joined u s v r (pieces_of ps) after t w.0) w.1)
-  cut-settled u s (finished n ∷ ps) after t w = cut-text u s _ _ after t (cut-node n _ _ after w.0 (cut-settled [] [] ps after (text-itself [] _ refl) w.1))
-  cut-settled u s (linked n ∷ ps) after t w = cut-text u s _ _ after t (cut-node n _ _ after w.0 (cut-settled [] [] ps after (text-itself [] _ refl) w.1))
+      with-source _ _ _ after (append_assoc s r (pieces_of ps))
+      (cut-settled (u ++ v) (s ++ r) ps after (joined u s v r (pieces_of ps) after t w.0) w.1)
+  cut-settled u s (finished n ∷ ps) after t w =
+      cut-text u s _ _ after t (cut-node n _ _ after w.0 (cut-settled [] [] ps after (text-itself [] _ refl) w.1))
+  cut-settled u s (linked n ∷ ps) after t w =
+      cut-text u s _ _ after t (cut-node n _ _ after w.0 (cut-settled [] [] ps after (text-itself [] _ refl) w.1))
   cut-settled u s (waiting run ∷ ps) after t w =
       let left = replicate run.left run.character in
-      with-source _ _ _ after (append_assoc s left (pieces_of ps)) (cut-settled (u ++ left) (s ++ left) ps after (joined u s left left (pieces_of ps) after t (run-itself run.left run.character _ (left-itself run.character run.left w.0))) w.1)
+      with-source _ _ _ after (append_assoc s left (pieces_of ps))
+      (cut-settled (u ++ left) (s ++ left) ps after
+      (joined u s left left (pieces_of ps) after t (run-itself run.left run.character _ (left-itself run.character run.left w.0))) w.1)
   cut-settled u s (opener image seen ∷ ps) after t w =
       let left = bracket_text image in
-      with-source _ _ _ after (append_assoc s left (pieces_of ps)) (cut-settled (u ++ left) (s ++ left) ps after (joined u s left left (pieces_of ps) after t (bracket-itself image _)) w.1)
+      with-source _ _ _ after (append_assoc s left (pieces_of ps))
+      (cut-settled (u ++ left) (s ++ left) ps after (joined u s left left (pieces_of ps) after t (bracket-itself image _)) w.1)
 
   -- a pair
 
@@ -221,7 +242,8 @@ module _ (rules : Rules) (defined : Defined) where
     pub whole : pieces_of placed ≡ source
     pub are : Are placed after
 
-  are-left : (n : ℕ) (r : Run) (after : List ℕ) → may_be_left r.character r.left ≡ true → encloses r.character n ≡ true → Are (left_of n r) after
+  are-left : (n : ℕ) (r : Run) (after : List ℕ) → may_be_left r.character r.left ≡ true → encloses r.character n ≡ true
+      → Are (left_of n r) after
   unfolding left_of
   are-left n r after h k = go (nat_le r.left n) refl
     where
@@ -232,8 +254,10 @@ module _ (rules : Rules) (defined : Defined) where
   settled-cut : (ps : List Placed) (after : List ℕ) → Are ps after → Cuts (settled (items_of ps)) (pieces_of ps) after
   settled-cut ps after w = cut-settled [] [] ps after (text-itself [] _ refl) w
 
-  pair-stands : (before inside after : List Placed) (o c : Run) (x : List ℕ) → o.character ≡ c.character → Are ((before ++ waiting o ∷ inside) ++ waiting c ∷ after) x
-      → Stand (paired (items_of before) o (items_of inside) c (items_of after)) (pieces_of ((before ++ waiting o ∷ inside) ++ waiting c ∷ after)) x
+  pair-stands : (before inside after : List Placed) (o c : Run) (x : List ℕ) → o.character ≡ c.character
+      → Are ((before ++ waiting o ∷ inside) ++ waiting c ∷ after) x
+      → Stand (paired (items_of before) o (items_of inside) c (items_of after))
+      (pieces_of ((before ++ waiting o ∷ inside) ++ waiting c ∷ after)) x
   unfolding paired inline_of source_of items_of pieces_of
   pair-stands before inside after o c x same w =
       record {
@@ -241,13 +265,16 @@ module _ (rules : Rules) (defined : Defined) where
         items_are =
             items-join ((before ++ lo) ++ (finished (made inner.nodes) ∷ lc)) after
             ∙ ap (λ t. t ++ items_of after) (items-join (before ++ lo) (finished (made inner.nodes) ∷ lc)
-            ∙ ap (λ t. t ++ (Finished (emphasised c.character n (inlines_of inner.nodes)) ∷ items_of lc)) (items-join before lo ∙ ap (λ t. items_of before ++ t) (items-left n o))
-            ∙ ap (λ t. (items_of before ++ without n o) ++ (Finished (emphasised c.character n (inlines_of inner.nodes)) ∷ t)) (items-left n c)
+            ∙ ap (λ t. t ++ (Finished (emphasised c.character n (inlines_of inner.nodes)) ∷ items_of lc))
+            (items-join before lo ∙ ap (λ t. items_of before ++ t) (items-left n o))
+            ∙ ap (λ t. (items_of before ++ without n o) ++ (Finished (emphasised c.character n (inlines_of inner.nodes)) ∷ t))
+            (items-left n c)
             ∙ ap (λ t. (items_of before ++ without n o) ++ (Finished (emphasised c.character n t) ∷ without n c)) inner.into.inlines_are);
         whole = whole-is inner.nodes inner.into.whole;
         are = are-joined rules defined ((before ++ lo) ++ (finished (made inner.nodes) ∷ lc)) after x
             (are-joined rules defined (before ++ lo) (finished (made inner.nodes) ∷ lc) (pa ++ x)
-            (are-joined rules defined before lo ((source_of (made inner.nodes) ++ pieces_of lc) ++ (pa ++ x)) (subst (Are before) (front-context inner.nodes inner.into.whole) front)
+            (are-joined rules defined before lo ((source_of (made inner.nodes) ++ pieces_of lc) ++ (pa ++ x))
+            (subst (Are before) (front-context inner.nodes inner.into.whole) front)
             (are-left n o _ middle.0 (ap (λ k. encloses k n) same ∙ enclosing)))
             ((enclosing, subst (AreCut rules defined inner.nodes) inner-context inner.into.cut), are-left n c (pa ++ x) back.0 enclosing))
             (back.1);
@@ -313,14 +340,17 @@ module _ (rules : Rules) (defined : Defined) where
       inner-context : (rc ++ pa) ++ x ≡ marks ++ (pieces_of lc ++ (pa ++ x))
       inner-context = ap (λ t. (t ++ pa) ++ x) (sym closer-marks) ∙ three marks (pieces_of lc) pa x
 
-      front-context : (nodes : Nodes) → sources_of nodes ≡ pi → (ro ++ pi) ++ ((rc ++ pa) ++ x) ≡ pieces_of lo ++ ((source_of (made nodes) ++ pieces_of lc) ++ (pa ++ x))
+      front-context : (nodes : Nodes) → sources_of nodes ≡ pi
+          → (ro ++ pi) ++ ((rc ++ pa) ++ x) ≡ pieces_of lo ++ ((source_of (made nodes) ++ pieces_of lc) ++ (pa ++ x))
       front-context nodes e =
           ap (λ t. (t ++ pi) ++ ((rc ++ pa) ++ x)) (sym opener-marks)
           ∙ ap (λ t. ((pieces_of lo ++ marks) ++ pi) ++ ((t ++ pa) ++ x)) (sym closer-marks)
           ∙ ap (λ t. ((pieces_of lo ++ marks) ++ t) ++ (((marks ++ pieces_of lc) ++ pa) ++ x)) (sym e)
           ∙ many (pieces_of lo) marks (sources_of nodes) (pieces_of lc) pa x
 
-      whole-is : (nodes : Nodes) → sources_of nodes ≡ pi → pieces_of (((before ++ lo) ++ (finished (made nodes) ∷ lc)) ++ after) ≡ pieces_of ((before ++ waiting o ∷ inside) ++ waiting c ∷ after)
+      whole-is : (nodes : Nodes) → sources_of nodes ≡ pi
+          → pieces_of (((before ++ lo) ++ (finished (made nodes) ∷ lc)) ++ after) ≡ pieces_of
+          ((before ++ waiting o ∷ inside) ++ waiting c ∷ after)
       whole-is nodes e =
           pieces-join ((before ++ lo) ++ (finished (made nodes) ∷ lc)) after
           ∙ ap (λ t. t ++ pa) (pieces-join (before ++ lo) (finished (made nodes) ∷ lc) ∙ ap (λ t. t ++ ((marks ++ (sources_of nodes ++ marks)) ++ pieces_of lc)) (pieces-join before lo))
@@ -332,15 +362,18 @@ module _ (rules : Rules) (defined : Defined) where
 
   -- One pair after another.
 
-  pair-keeps : (ps : List Placed) (out : List Item) (x : List ℕ) → Are ps x → pair_once (items_of ps) ≡ Some out → Stand out (pieces_of ps) x
+  pair-keeps : (ps : List Placed) (out : List Item) (x : List ℕ) → Are ps x → pair_once (items_of ps) ≡ Some out
+      → Stand out (pieces_of ps) x
   pair-keeps ps out x w e = go (leftmost-splits [] (items_of ps) out e)
     where
       go : Split (items_of ps) out → Stand out (pieces_of ps) x
       go s =
           let h = halves ps (together s.found) s.closer s.after s.whole in
           let k = halves h.before s.found.before s.found.opener s.found.inside h.fronts in
-          let all : ps ≡ (k.before ++ waiting s.found.opener ∷ k.after) ++ waiting s.closer ∷ h.after = h.whole ∙ ap (λ t. t ++ waiting s.closer ∷ h.after) k.whole in
-          let made = pair-stands k.before k.after h.after s.found.opener s.closer x s.same (subst (λ l. ArePlaced rules defined l x) all w) in
+          let all : ps ≡ (k.before ++ waiting s.found.opener ∷ k.after) ++ waiting s.closer ∷ h.after = h.whole
+          ∙ ap (λ t. t ++ waiting s.closer ∷ h.after) k.whole in
+          let made = pair-stands k.before k.after h.after s.found.opener s.closer x s.same
+          (subst (λ l. ArePlaced rules defined l x) all w) in
           record {
             placed = made.placed;
             items_are = made.items_are ∙ ap (λ t. paired t s.found.opener (items_of k.after) s.closer (items_of h.after)) k.fronts
@@ -355,13 +388,21 @@ module _ (rules : Rules) (defined : Defined) where
   pairs-keep zero ps x w = record { placed = ps; items_are = refl; whole = refl; are = w }
   pairs-keep (suc n) ps x w = go (pair_once (items_of ps)) refl (λ qs v. pairs-keep n qs x v)
     where
-      go : (o : Option (List Item)) → pair_once (items_of ps) ≡ o → ((qs : List Placed) → Are qs x → Stand (pairs_within n (items_of qs)) (pieces_of qs) x)
+      go : (o : Option (List Item)) → pair_once (items_of ps) ≡ o
+          → ((qs : List Placed) → Are qs x → Stand (pairs_within n (items_of qs)) (pieces_of qs) x)
           → Stand (elim o as (λ _. List Item) [ Some more ↦ pairs_within n more | None ↦ items_of ps ]) (pieces_of ps) x
       go None e k = record { placed = ps; items_are = refl; whole = refl; are = w }
       go (Some more) e k =
           let one = pair-keeps ps more x w e in
           let all = k one.placed one.are in
-          record { placed = all.placed; items_are = all.items_are ∙ ap (λ t. pairs_within n t) one.items_are; whole = all.whole ∙ one.whole; are = all.are }
+          record {
+            placed =
+                all.placed;
+            items_are = all.items_are ∙ ap (λ t. pairs_within n t) one.items_are;
+            whole = all.whole
+                ∙ one.whole;
+            are = all.are;
+          }
 
   pub pairing-keeps : (ps : List Placed) (x : List ℕ) → ArePlaced rules defined ps x → Cuts (emphasis_of (items_of ps)) (pieces_of ps) x
   unfolding pair_all

@@ -64,7 +64,8 @@ module _ (rules : Rules) (defined : Defined) where
   ArePlaced [] after = ⊤
   ArePlaced (p ∷ ps) after = IsPlaced p (pieces_of ps ++ after) × ArePlaced ps after
 
-  pub are-joined : (ps qs : List Placed) (after : List ℕ) → ArePlaced ps (pieces_of qs ++ after) → ArePlaced qs after → ArePlaced (ps ++ qs) after
+  pub are-joined : (ps qs : List Placed) (after : List ℕ) → ArePlaced ps (pieces_of qs ++ after) → ArePlaced qs after
+      → ArePlaced (ps ++ qs) after
   are-joined [] qs after v w = w
   are-joined (p ∷ ps) qs after v w = (subst (IsPlaced p) (context ps qs after) v.0, are-joined ps qs after v.1 w)
 

@@ -38,17 +38,22 @@ back-join (p ∷ ps) qs = ap (λ t. t ++ piece_of p) (back-join ps qs) ∙ appen
 back-reverse : (ps : List Placed) → back_of (reverse ps) ≡ pieces_of ps
 unfolding back_of pieces_of
 back-reverse [] = refl
-back-reverse (p ∷ ps) = ap back_of (reverse-append (p ∷ []) ps) ∙ back-join (reverse ps) (p ∷ []) ∙ ap (λ t. piece_of p ++ t) (back-reverse ps)
+back-reverse (p ∷ ps) =
+    ap back_of (reverse-append (p ∷ []) ps) ∙ back-join (reverse ps) (p ∷ []) ∙ ap (λ t. piece_of p ++ t) (back-reverse ps)
 
 pieces-reverse : (ps : List Placed) → pieces_of (reverse ps) ≡ back_of ps
 unfolding back_of pieces_of
 pieces-reverse [] = refl
-pieces-reverse (p ∷ ps) = ap pieces_of (reverse-append (p ∷ []) ps) ∙ pieces-join (reverse ps) (p ∷ []) ∙ ap (λ t. pieces_of (reverse ps) ++ t) (append-nil (piece_of p)) ∙ ap (λ t. t ++ piece_of p) (pieces-reverse ps)
+pieces-reverse (p ∷ ps) =
+    ap pieces_of (reverse-append (p ∷ []) ps) ∙ pieces-join (reverse ps) (p ∷ [])
+    ∙ ap (λ t. pieces_of (reverse ps) ++ t) (append-nil (piece_of p)) ∙ ap (λ t. t ++ piece_of p) (pieces-reverse ps)
 
 items-reverse : (ps : List Placed) → items_of (reverse ps) ≡ reverse (items_of ps)
 unfolding items_of
 items-reverse [] = refl
-items-reverse (p ∷ ps) = ap items_of (reverse-append (p ∷ []) ps) ∙ items-join (reverse ps) (p ∷ []) ∙ ap (λ t. t ++ item_of p ∷ []) (items-reverse ps) ∙ sym (reverse-append (item_of p ∷ []) (items_of ps))
+items-reverse (p ∷ ps) =
+    ap items_of (reverse-append (p ∷ []) ps) ∙ items-join (reverse ps) (p ∷ []) ∙ ap (λ t. t ++ item_of p ∷ []) (items-reverse ps)
+    ∙ sym (reverse-append (item_of p ∷ []) (items_of ps))
 
 -- the nearest opener among placed items
 record Nearest (qs inner : List Placed) (found : OpenerFound) : Type 0 where
@@ -96,12 +101,15 @@ module _ (rules : Rules) (defined : Defined) where
   BackPlaced [] after = ⊤
   BackPlaced (p ∷ ps) after = IsPlaced rules defined p after × BackPlaced ps (piece_of p ++ after)
 
-  back-both : (ps qs : List Placed) (after : List ℕ) → BackPlaced ps after → BackPlaced qs (back_of ps ++ after) → BackPlaced (ps ++ qs) after
+  back-both : (ps qs : List Placed) (after : List ℕ) → BackPlaced ps after → BackPlaced qs (back_of ps ++ after)
+      → BackPlaced (ps ++ qs) after
   unfolding back_of
   back-both [] qs after v w = w
-  back-both (p ∷ ps) qs after v w = (v.0, back-both ps qs (piece_of p ++ after) v.1 (subst (BackPlaced qs) (append_assoc (back_of ps) (piece_of p) after) w))
+  back-both (p ∷ ps) qs after v w =
+      (v.0, back-both ps qs (piece_of p ++ after) v.1 (subst (BackPlaced qs) (append_assoc (back_of ps) (piece_of p) after) w))
 
-  back-split : (ps qs : List Placed) (after : List ℕ) → BackPlaced (ps ++ qs) after → BackPlaced ps after × BackPlaced qs (back_of ps ++ after)
+  back-split : (ps qs : List Placed) (after : List ℕ) → BackPlaced (ps ++ qs) after
+      → BackPlaced ps after × BackPlaced qs (back_of ps ++ after)
   unfolding back_of
   back-split [] qs after w = (tt, w)
   back-split (p ∷ ps) qs after w =
@@ -113,7 +121,9 @@ module _ (rules : Rules) (defined : Defined) where
   are-reverse [] after w = tt
   are-reverse (p ∷ ps) after w =
       subst (λ l. ArePlaced rules defined l after) (sym (reverse-append (p ∷ []) ps))
-      (are-joined rules defined (reverse ps) (p ∷ []) after (subst (ArePlaced rules defined (reverse ps)) (ap (λ t. t ++ after) (sym (append-nil (piece_of p)))) (are-reverse ps (piece_of p ++ after) w.1)) (w.0, tt))
+      (are-joined rules defined (reverse ps) (p ∷ []) after
+      (subst (ArePlaced rules defined (reverse ps)) (ap (λ t. t ++ after) (sym (append-nil (piece_of p))))
+      (are-reverse ps (piece_of p ++ after) w.1)) (w.0, tt))
 
   -- Placed items for those so far, whose source is what was read, before what is left.
   record Standing (items : List Item) (so_far rest : List ℕ) : Type 0 where
@@ -122,7 +132,8 @@ module _ (rules : Rules) (defined : Defined) where
     pub whole : back_of placed ≡ so_far
     pub are : BackPlaced placed rest
 
-  one-more : (p : Placed) (items : List Item) (so_far rest : List ℕ) → Standing items so_far (piece_of p ++ rest) → IsPlaced rules defined p rest → Standing (item_of p ∷ items) (so_far ++ piece_of p) rest
+  one-more : (p : Placed) (items : List Item) (so_far rest : List ℕ) → Standing items so_far (piece_of p ++ rest)
+      → IsPlaced rules defined p rest → Standing (item_of p ∷ items) (so_far ++ piece_of p) rest
   unfolding items_of back_of
   one-more p items so_far rest s w = record {
     placed = p ∷ s.placed;
@@ -137,11 +148,14 @@ module _ (rules : Rules) (defined : Defined) where
     pub is : rest ≡ tail ++ out.rest
     pub stands : Standing out.items (so_far ++ 93 ∷ tail) out.rest
 
-  bracket-stands : (items : List Item) (so_far rest : List ℕ) → Standing items so_far (93 ∷ rest) → Closed so_far rest (record { items = bracket_is_text items; rest = rest })
-  bracket-stands items so_far rest s = record { tail = []; is = refl; stands = one-more (characters (93 ∷ []) (93 ∷ [])) items so_far rest s (text-itself (93 ∷ []) rest refl) }
+  bracket-stands : (items : List Item) (so_far rest : List ℕ) → Standing items so_far (93 ∷ rest)
+      → Closed so_far rest (record { items = bracket_is_text items; rest = rest })
+  bracket-stands items so_far rest s =
+      record { tail = []; is = refl; stands = one-more (characters (93 ∷ []) (93 ∷ [])) items so_far rest s (text-itself (93 ∷ []) rest refl) }
 
   -- the opener as text
-  opener-stands : (so_far rest : List ℕ) (placed : List Placed) (found : OpenerFound) (n : Nearest placed [] found) → back_of placed ≡ so_far → BackPlaced placed rest
+  opener-stands : (so_far rest : List ℕ) (placed : List Placed) (found : OpenerFound) (n : Nearest placed [] found)
+      → back_of placed ≡ so_far → BackPlaced placed rest
       → Standing (reverse found.inside ++ Characters (bracket_text found.image) ∷ found.before) so_far rest
   unfolding items_of back_of
   opener-stands so_far rest placed found n whole are =
@@ -151,15 +165,18 @@ module _ (rules : Rules) (defined : Defined) where
       let halves = back-split n.front (o ∷ n.before) rest (subst (λ l. BackPlaced l rest) n.split are) in
       record {
         placed = n.front ++ t ∷ n.before;
-        items_are = items-join n.front (t ∷ n.before) ∙ ap (λ l. items_of n.front ++ Characters mark ∷ l) n.before_are ∙ ap (λ l. l ++ Characters mark ∷ found.before) fronts;
+        items_are = items-join n.front (t ∷ n.before) ∙ ap (λ l. items_of n.front ++ Characters mark ∷ l) n.before_are
+            ∙ ap (λ l. l ++ Characters mark ∷ found.before) fronts;
         whole = back-join n.front (t ∷ n.before) ∙ sym (back-join n.front (o ∷ n.before)) ∙ ap back_of (sym n.split) ∙ whole;
         are = back-both n.front (t ∷ n.before) rest halves.0 (bracket-itself found.image _, halves.1.1);
       }
     where
       fronts : items_of n.front ≡ reverse found.inside
-      fronts = sym (reverse-reverse (items_of n.front)) ∙ ap reverse (sym (items-reverse n.front) ∙ ap items_of (sym (append-nil (reverse n.front))) ∙ n.inside_are)
+      fronts = sym (reverse-reverse (items_of n.front))
+          ∙ ap reverse (sym (items-reverse n.front) ∙ ap items_of (sym (append-nil (reverse n.front))) ∙ n.inside_are)
 
-  both-stand : (items : List Item) (so_far rest : List ℕ) (found : OpenerFound) (s : Standing items so_far (93 ∷ rest)) → Nearest s.placed [] found
+  both-stand : (items : List Item) (so_far rest : List ℕ) (found : OpenerFound) (s : Standing items so_far (93 ∷ rest))
+      → Nearest s.placed [] found
       → Closed so_far rest (record { items = brackets_are_text found; rest = rest })
   both-stand items so_far rest found s n = bracket-stands _ so_far rest (opener-stands so_far (93 ∷ rest) s.placed found n s.whole s.are)
 
@@ -177,9 +194,12 @@ module _ (rules : Rules) (defined : Defined) where
   link-item found end nodes tail e = go found.image (holds_link found.inside) refl
     where
       both : Bool → Item
-      both linking = if linking then Linked (Image end.dest end.title (emphasis_of found.inside)) else Finished (Image end.dest end.title (emphasis_of found.inside))
+      both linking =
+          if linking then Linked (Image end.dest end.title (emphasis_of found.inside)) else Finished
+          (Image end.dest end.title (emphasis_of found.inside))
 
-      go : (image linking : Bool) → holds_link found.inside ≡ linking → item_of (link_placed linking image (bracketed image end.dest end.title nodes tail))
+      go : (image linking : Bool) → holds_link found.inside ≡ linking
+          → item_of (link_placed linking image (bracketed image end.dest end.title nodes tail))
           ≡ made image end.dest end.title found.inside
       go false linking h = ap (λ l. Linked (Link end.dest end.title l)) e
       go true true h = ap (λ l. Linked (Image end.dest end.title l)) e ∙ ap both (sym h)
@@ -191,13 +211,15 @@ module _ (rules : Rules) (defined : Defined) where
   link-piece true true n = refl
   link-piece false true n = refl
 
-  link-cut : (linking image : Bool) (n : Node) (rest : List ℕ) → IsCut rules defined n rest → IsPlaced rules defined (link_placed linking image n) rest
+  link-cut : (linking image : Bool) (n : Node) (rest : List ℕ) → IsCut rules defined n rest
+      → IsPlaced rules defined (link_placed linking image n) rest
   unfolding link_placed
   link-cut linking false n rest w = w
   link-cut true true n rest w = w
   link-cut false true n rest w = w
 
-  link-stands : (items : List Item) (so_far rest : List ℕ) (found : OpenerFound) (end : LinkEnd) (s : Standing items so_far (93 ∷ rest)) → Nearest s.placed [] found
+  link-stands : (items : List Item) (so_far rest : List ℕ) (found : OpenerFound) (end : LinkEnd) (s : Standing items so_far (93 ∷ rest))
+      → Nearest s.placed [] found
       → end_at rules defined (source_up_to found.source (93 ∷ rest)) rest ≡ Some end
       → Closed so_far rest (record { items = made found.image end.dest end.title found.inside ∷ found.before; rest = end.rest })
   unfolding items_of back_of source_up_to link_node source_of
@@ -207,7 +229,8 @@ module _ (rules : Rules) (defined : Defined) where
         is = tail_is;
         stands = record {
           placed = placed ∷ n.before;
-          items_are = ap (λ i. i ∷ items_of n.before) (link-item found end content.nodes tail inside_is) ∙ ap (λ l. made found.image end.dest end.title found.inside ∷ l) n.before_are;
+          items_are = ap (λ i. i ∷ items_of n.before) (link-item found end content.nodes tail inside_is)
+              ∙ ap (λ l. made found.image end.dest end.title found.inside ∷ l) n.before_are;
           whole = ap (λ t. back_of n.before ++ t) (link-piece linking found.image this) ∙ whole_is;
           are = (link-cut linking found.image this end.rest cut, subst (BackPlaced n.before) seen halves.1.1);
         };
@@ -271,11 +294,13 @@ module _ (rules : Rules) (defined : Defined) where
           ∙ assoc mark (sources_of content.nodes) (93 ∷ tail) end.rest
           ∙ ap (λ t. t ++ end.rest) (sym (link-piece linking found.image this))
 
-  close-stands : (items : List Item) (so_far rest : List ℕ) → Standing items so_far (93 ∷ rest) → Closed so_far rest (close_bracket rules defined items rest)
+  close-stands : (items : List Item) (so_far rest : List ℕ) → Standing items so_far (93 ∷ rest)
+      → Closed so_far rest (close_bracket rules defined items rest)
   unfolding close_bracket closed_by_bracket items_of
   close-stands items so_far rest s = go (last_opener items []) refl
     where
-      ends : (found : OpenerFound) → Nearest s.placed [] found → (o : Option LinkEnd) → end_at rules defined (source_up_to found.source (93 ∷ rest)) rest ≡ o
+      ends : (found : OpenerFound) → Nearest s.placed [] found → (o : Option LinkEnd)
+          → end_at rules defined (source_up_to found.source (93 ∷ rest)) rest ≡ o
           → Closed so_far rest (elim o as (λ _. Bracketed) [
             | Some end ↦ record { items = made found.image end.dest end.title found.inside ∷ found.before; rest = end.rest }
             | None ↦ record { items = brackets_are_text found; rest = rest }
@@ -298,7 +323,8 @@ module _ (rules : Rules) (defined : Defined) where
         | None ↦ record { items = bracket_is_text items; rest = rest }
       ])
       go None e = bracket-stands items so_far rest s
-      go (Some found) e = by found (nearest s.placed [] found (ap (λ l. last_opener l []) s.items_are ∙ e)) (not found.image && holds_link found.inside)
+      go (Some found) e =
+          by found (nearest s.placed [] found (ap (λ l. last_opener l []) s.items_are ∙ e)) (not found.image && holds_link found.inside)
 
   -- one atom more
 
@@ -313,24 +339,53 @@ module _ (rules : Rules) (defined : Defined) where
   read-as : (items : List Item) (s t rest : List ℕ) → s ≡ t → Standing items s rest → Standing items t rest
   read-as items s t rest e v = subst (λ r. Standing items r rest) e v
 
-  step-stands : (before : List ℕ) (b : ℕ) (bs : List ℕ) (items : List Item) (so_far : List ℕ) → Standing items so_far (b ∷ bs) → Step so_far b bs (item_step rules defined before b bs items)
+  step-stands : (before : List ℕ) (b : ℕ) (bs : List ℕ) (items : List Item) (so_far : List ℕ) → Standing items so_far (b ∷ bs)
+      → Step so_far b bs (item_step rules defined before b bs items)
   unfolding item_step add_atom source_of inline_of
-  step-stands before b bs items so_far s = go (atom_at rules before b bs).atom (atom_at rules before b bs).rest refl (atom-takes rules before b bs)
+  step-stands before b bs items so_far s =
+      go (atom_at rules before b bs).atom (atom_at rules before b bs).rest refl (atom-takes rules before b bs)
     where
-      go : (atom : Atom) (rest : List ℕ) → atom_at rules before b bs ≡ record { atom = atom; rest = rest } → Took b bs (record { atom = atom; rest = rest })
+      go : (atom : Atom) (rest : List ℕ) → atom_at rules before b bs ≡ record { atom = atom; rest = rest }
+          → Took b bs (record { atom = atom; rest = rest })
           → Step so_far b bs (add_atom rules defined items atom rest)
       go (Plain t) rest e k =
           let whole = ap (λ l. b ∷ l) k.is in
-          record { taken = k.taken; is = k.is; stands = one-more (characters t (b ∷ k.taken)) items so_far rest (seen-as items so_far (b ∷ bs) (b ∷ k.taken ++ rest) whole s) k.law }
+          record {
+            taken =
+                k.taken;
+            is = k.is;
+            stands = one-more (characters t (b ∷ k.taken)) items so_far rest
+                (seen-as items so_far (b ∷ bs) (b ∷ k.taken ++ rest) whole s) k.law;
+          }
       go (Whole inline) rest e k =
           let whole = ap (λ l. b ∷ l) k.is in
-          record { taken = k.taken; is = k.is; stands = one-more (finished (single inline (b ∷ k.taken))) items so_far rest (seen-as items so_far (b ∷ bs) (b ∷ k.taken ++ rest) whole s) (ap (first_atom rules) (sym whole) ∙ whole-anywhere rules before b bs inline rest e) }
+          record {
+            taken =
+                k.taken;
+            is = k.is;
+            stands = one-more (finished (single inline (b ∷ k.taken))) items so_far rest
+                (seen-as items so_far (b ∷ bs) (b ∷ k.taken ++ rest) whole s)
+                (ap (first_atom rules) (sym whole) ∙ whole-anywhere rules before b bs inline rest e);
+          }
       go (Delimiter run) rest e k =
           let whole = ap (λ l. b ∷ l) k.is ∙ ap (λ l. l ++ rest) k.law.0 in
-          record { taken = k.taken; is = k.is; stands = read-as _ _ _ rest (ap (λ l. so_far ++ l) (sym k.law.0)) (one-more (waiting run) items so_far rest (seen-as items so_far (b ∷ bs) (replicate run.left run.character ++ rest) whole s) k.law.1) }
+          record {
+            taken =
+                k.taken;
+            is = k.is;
+            stands = read-as _ _ _ rest (ap (λ l. so_far ++ l) (sym k.law.0))
+                (one-more (waiting run) items so_far rest
+                (seen-as items so_far (b ∷ bs) (replicate run.left run.character ++ rest) whole s) k.law.1);
+          }
       go (OpenBracket image) rest e k =
           let whole = ap (λ l. b ∷ l) k.is ∙ ap (λ l. l ++ rest) k.law in
-          record { taken = k.taken; is = k.is; stands = read-as _ _ _ rest (ap (λ l. so_far ++ l) (sym k.law)) (one-more (opener image rest) items so_far rest (seen-as items so_far (b ∷ bs) (bracket_text image ++ rest) whole s) refl) }
+          record {
+            taken =
+                k.taken;
+            is = k.is;
+            stands = read-as _ _ _ rest (ap (λ l. so_far ++ l) (sym k.law))
+                (one-more (opener image rest) items so_far rest (seen-as items so_far (b ∷ bs) (bracket_text image ++ rest) whole s) refl);
+          }
       go CloseBracket rest e k =
           let whole = ap (λ l. b ∷ l) k.is ∙ ap (λ l. l ++ rest) k.law in
           let c = close-stands items so_far rest (seen-as items so_far (b ∷ bs) (93 ∷ rest) whole s) in
@@ -347,7 +402,8 @@ module _ (rules : Rules) (defined : Defined) where
   unfolding items_after
   all-stand n before [] items so_far h s = read-as items so_far (so_far ++ []) [] (sym (append-nil so_far)) s
   all-stand zero before (b ∷ bs) items so_far h s = absurd (omega (arith, h))
-  all-stand (suc n) before (b ∷ bs) items so_far h s = go (step-stands before b bs items so_far s) (λ before rest more read k v. all-stand n before rest more read k v)
+  all-stand (suc n) before (b ∷ bs) items so_far h s =
+      go (step-stands before b bs items so_far s) (λ before rest more read k v. all-stand n before rest more read k v)
     where
       next : Bracketed
       next = item_step rules defined before b bs items
@@ -361,10 +417,13 @@ module _ (rules : Rules) (defined : Defined) where
           subst (λ l. Standing l (so_far ++ b ∷ bs) []) (sym (goes-on step.taken step.is))
           (read-as _ _ _ [] (append_assoc so_far (b ∷ step.taken) next.rest ∙ ap (λ l. so_far ++ b ∷ l) (sym step.is)) last)
         where
-          goes-on : (taken : List ℕ) → bs ≡ taken ++ next.rest → items_after rules defined zero before (b ∷ bs) items ≡ items_after rules defined zero (reverse taken ++ b ∷ before) next.rest next.items
+          goes-on : (taken : List ℕ) → bs ≡ taken ++ next.rest
+              → items_after rules defined zero before (b ∷ bs) items ≡ items_after rules defined zero
+              (reverse taken ++ b ∷ before) next.rest next.items
           goes-on taken is =
               ap (λ l. items_after rules defined zero before (b ∷ l) items) is
-              ∙ reading_goes_on rules defined before b taken next.rest items (ap (λ l. (item_step rules defined before b l items).rest) (sym is))
+              ∙ reading_goes_on rules defined before b taken next.rest items
+              (ap (λ l. (item_step rules defined before b l items).rest) (sym is))
               ∙ ap (λ l. items_after rules defined zero (reverse taken ++ b ∷ before) next.rest (item_step rules defined before b l items).items) (sym is)
 
   start : (source : List ℕ) → Standing [] [] source

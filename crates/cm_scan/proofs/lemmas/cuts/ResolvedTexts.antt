@@ -104,7 +104,8 @@ entry-one (e ∷ es) name n h = go (bytes_eq e.0 name) (entry-one es name n both
     reading : Option (List ℕ) → Found
     reading found = elim found [ None ↦ None | Some characters ↦ Some (characters, n) ]
 
-    go : (same : Bool) → HasOne (reading (entry es name)) → HasOne (reading (elim same as (λ _. Option (List ℕ)) [ true ↦ Some e.1 | false ↦ entry es name ]))
+    go : (same : Bool) → HasOne (reading (entry es name))
+        → HasOne (reading (elim same as (λ _. Option (List ℕ)) [ true ↦ Some e.1 | false ↦ entry es name ]))
     go true k = one-of e.1 n (some-length e.1 some)
     go false k = k
 
@@ -141,7 +142,8 @@ pub same-end : (n m : ℕ) (s : List ℕ) → taken_from n s ≡ taken_from m s 
 unfolding resolved
 same-end zero zero s e = refl
 same-end zero (suc m) [] e = refl
-same-end zero (suc m) (b ∷ bs) e = absurd (some-front (first_resolved b bs).0 (taken_from m (first_resolved b bs).1) (first-some b bs) (sym e))
+same-end zero (suc m) (b ∷ bs) e =
+    absurd (some-front (first_resolved b bs).0 (taken_from m (first_resolved b bs).1) (first-some b bs) (sym e))
 same-end (suc n) zero [] e = refl
 same-end (suc n) zero (b ∷ bs) e = absurd (some-front (first_resolved b bs).0 (taken_from n (first_resolved b bs).1) (first-some b bs) e)
 same-end (suc n) (suc m) [] e = refl
@@ -170,7 +172,8 @@ resolved-more (suc n) m (b ∷ bs) =
     let more = resolved-more n m first.1 in (
       suc more.0,
       ap (λ (p : List ℕ × List ℕ). (first.0 ++ p.0, p.1)) more.1
-          ∙ ap (λ t. (t, left_of m (left_of n first.1))) (sym (append_assoc first.0 (taken_from n first.1) (taken_from m (left_of n first.1)))),
+          ∙ ap (λ t. (t, left_of m (left_of n first.1)))
+          (sym (append_assoc first.0 (taken_from n first.1) (taken_from m (left_of n first.1)))),
     )
 
 pub texts-joined : (t s u r after : List ℕ) → IsTextOf t s (r ++ after) → IsTextOf u r after → IsTextOf (t ++ u) (s ++ r) after
@@ -185,7 +188,8 @@ texts-joined t s u r after (n, e) (m, f) =
 -- characters as they are
 
 first-itself : (b : ℕ) (bs : List ℕ) → special (b ∷ bs) ≡ None → first_resolved b bs ≡ (b ∷ [], bs)
-first-itself b bs e = ap (λ o. elim o as (λ _. List ℕ × List ℕ) [ Some found ↦ (encode_utf8_all found.0, drop found.1 (b ∷ bs)) | None ↦ (b ∷ [], bs) ]) e
+first-itself b bs e =
+    ap (λ o. elim o as (λ _. List ℕ × List ℕ) [ Some found ↦ (encode_utf8_all found.0, drop found.1 (b ∷ bs)) | None ↦ (b ∷ [], bs) ]) e
 
 pub byte-itself : (b : ℕ) (bs : List ℕ) → special (b ∷ bs) ≡ None → IsTextOf (b ∷ []) (b ∷ []) bs
 unfolding resolved
@@ -199,7 +203,8 @@ unfolding resolved
 text-itself [] after h = (0, refl)
 text-itself (b ∷ bs) after h =
     let parts = and_parts (is_itself b) (list_all is_itself bs) h in
-    texts-joined (b ∷ []) (b ∷ []) bs bs after (byte-itself b (bs ++ after) (plain-byte b (bs ++ after) parts.0)) (text-itself bs after parts.1)
+    texts-joined (b ∷ []) (b ∷ []) bs bs after (byte-itself b (bs ++ after) (plain-byte b (bs ++ after) parts.0))
+    (text-itself bs after parts.1)
 
 pub run-itself : (n b : ℕ) (after : List ℕ) → is_itself b ≡ true → IsTextOf (replicate n b) (replicate n b) after
 run-itself n b after h = text-itself (replicate n b) after (go n)
@@ -213,13 +218,21 @@ bracket-itself true after = text-itself (bracket_text true) after refl
 bracket-itself false after = text-itself (bracket_text false) after refl
 
 -- what is resolved at the start
-pub special-text : (b : ℕ) (taken rest characters : List ℕ) (len : ℕ) → special (b ∷ (taken ++ rest)) ≡ Some (characters, len) → drop len (b ∷ (taken ++ rest)) ≡ rest
+pub special-text : (b : ℕ) (taken rest characters : List ℕ) (len : ℕ) → special (b ∷ (taken ++ rest)) ≡ Some (characters, len)
+    → drop len (b ∷ (taken ++ rest)) ≡ rest
     → IsTextOf (encode_utf8_all characters) (b ∷ taken) rest
 unfolding resolved
-special-text b taken rest characters len e left = (1, ap made e ∙ ap (λ t. (t, drop len (b ∷ (taken ++ rest)))) (append-nil (encode_utf8_all characters)) ∙ ap (λ t. (encode_utf8_all characters, t)) left)
+special-text b taken rest characters len e left = (
+  1,
+  ap made e ∙ ap (λ t. (t, drop len (b ∷ (taken ++ rest)))) (append-nil (encode_utf8_all characters)) ∙ ap
+      (λ t. (encode_utf8_all characters, t)) left,
+)
   where
     made : Found → List ℕ × List ℕ
-    made o = let first = elim o as (λ _. List ℕ × List ℕ) [ Some found ↦ (encode_utf8_all found.0, drop found.1 (b ∷ (taken ++ rest))) | None ↦ (b ∷ [], taken ++ rest) ] in (first.0 ++ [], first.1)
+    made o =
+        let first = elim o as (λ _. List ℕ × List ℕ)
+        [ Some found ↦ (encode_utf8_all found.0, drop found.1 (b ∷ (taken ++ rest))) | None ↦ (b ∷ [], taken ++ rest) ] in
+        (first.0 ++ [], first.1)
 
 -- what is left is shorter
 
@@ -238,7 +251,8 @@ left-shorter (suc n) [] = omega arith
 left-shorter (suc n) (b ∷ bs) = omega (arith, left-shorter n (first_resolved b bs).1, first-shorter b bs)
 
 -- a text in which nothing is resolved is its source
-plain-by : (n : ℕ) (source text after : List ℕ) → resolved n (source ++ after) ≡ (text, after) → list_all is_itself source ≡ true → text ≡ source
+plain-by : (n : ℕ) (source text after : List ℕ) → resolved n (source ++ after) ≡ (text, after) → list_all is_itself source ≡ true
+    → text ≡ source
 unfolding resolved
 plain-by zero [] text after e h = sym (ap (λ (p : List ℕ × List ℕ). p.0) e)
 plain-by zero (c ∷ cs) text after e h = absurd (omega (arith, ap (λ (p : List ℕ × List ℕ). length p.1) e, length-append cs after))
@@ -250,7 +264,8 @@ plain-by (suc n) (c ∷ cs) text after e h =
     let first = first-itself c (cs ++ after) (plain-byte c (cs ++ after) parts.0) in
     let whole : (c ∷ taken_from n (cs ++ after), left_of n (cs ++ after)) ≡ (text, after) =
     ap (λ (p : List ℕ × List ℕ). (p.0 ++ taken_from n p.1, left_of n p.1)) (sym first) ∙ e in
-    let others = plain-by n cs (taken_from n (cs ++ after)) after (ap (λ t. (taken_from n (cs ++ after), t)) (ap (λ (p : List ℕ × List ℕ). p.1) whole)) parts.1 in
+    let others = plain-by n cs (taken_from n (cs ++ after)) after
+    (ap (λ t. (taken_from n (cs ++ after), t)) (ap (λ (p : List ℕ × List ℕ). p.1) whole)) parts.1 in
     sym (ap (λ (p : List ℕ × List ℕ). p.0) whole) ∙ ap (λ t. c ∷ t) others
 
 pub plain-text : (source text after : List ℕ) → IsTextOf text source after → list_all is_itself source ≡ true → text ≡ source

@@ -43,7 +43,8 @@ run-whole marker [] = refl
 run-whole marker (b ∷ bs) = go (b == marker) refl (run-whole marker bs)
   where
     go : (c : Bool) → (b == marker) ≡ c → bs ≡ replicate (run_length marker bs) marker ++ after_run marker bs
-        → b ∷ bs ≡ replicate (elim c as (λ _. ℕ) [ true ↦ suc (run_length marker bs) | false ↦ 0 ]) marker ++ (elim c as (λ _. List ℕ) [ true ↦ after_run marker bs | false ↦ b ∷ bs ])
+        → b ∷ bs ≡ replicate (elim c as (λ _. ℕ) [ true ↦ suc (run_length marker bs) | false ↦ 0 ]) marker ++
+        (elim c as (λ _. List ℕ) [ true ↦ after_run marker bs | false ↦ b ∷ bs ])
     go true h e = ap (λ t. b ∷ t) e ∙ ap (λ x. x ∷ (replicate (run_length marker bs) marker ++ after_run marker bs)) (eqb-true b marker h)
     go false h e = refl
 
@@ -52,22 +53,34 @@ last-of true true c h = h
 last-of true false c h = absurd (cc h)
 last-of false b c h = absurd (cc h)
 
-up_to-whole : (n : ℕ) (in_run : Bool) (text : List ℕ) (r : Reading) → up_to_run n in_run text ≡ Some r → text ≡ r.text ++ (replicate n 96 ++ r.rest)
+up_to-whole : (n : ℕ) (in_run : Bool) (text : List ℕ) (r : Reading) → up_to_run n in_run text ≡ Some r
+    → text ≡ r.text ++ (replicate n 96 ++ r.rest)
 unfolding up_to_run
 up_to-whole n in_run [] r e = none-some e
-up_to-whole n in_run (b ∷ bs) r e = go (b == 96 && not in_run && run_length 96 (b ∷ bs) == n) refl e (up_to_run n (b == 96) bs) refl (λ s h. up_to-whole n (b == 96) bs s h)
+up_to-whole n in_run (b ∷ bs) r e =
+    go (b == 96 && not in_run && run_length 96 (b ∷ bs) == n) refl e (up_to_run n (b == 96) bs) refl (λ s h. up_to-whole n (b == 96) bs s h)
   where
     Whole-in : List ℕ → Reading → Type 0
     Whole-in text s = text ≡ s.text ++ (replicate n 96 ++ s.rest)
 
     go : (c : Bool) → (b == 96 && not in_run && run_length 96 (b ∷ bs) == n) ≡ c
-        → elim c as (λ _. Option Reading) [ true ↦ Some (record { text = []; rest = after_run 96 (b ∷ bs) }) | false ↦ beyond b (up_to_run n (b == 96) bs) ] ≡ Some r
+        → elim c as (λ _. Option Reading) [
+          | true ↦ Some (record {
+            text =
+                [];
+            rest = after_run 96 (b ∷ bs);
+          })
+          | false ↦ beyond b (up_to_run n (b == 96) bs)
+        ] ≡ Some r
         → (o : Option Reading) → up_to_run n (b == 96) bs ≡ o → ((s : Reading) → o ≡ Some s → Whole-in bs s) → Whole-in (b ∷ bs) r
     go true h e o f k =
         subst (Whole-in (b ∷ bs)) (same_Some _ r e)
-        (run-whole 96 (b ∷ bs) ∙ ap (λ m. replicate m 96 ++ after_run 96 (b ∷ bs)) (eqb-true (run_length 96 (b ∷ bs)) n (last-of (b == 96) (not in_run) (run_length 96 (b ∷ bs) == n) h)))
+        (run-whole 96 (b ∷ bs) ∙ ap (λ m. replicate m 96 ++ after_run 96 (b ∷ bs))
+        (eqb-true (run_length 96 (b ∷ bs)) n (last-of (b == 96) (not in_run) (run_length 96 (b ∷ bs) == n) h)))
     go false h e None f k = none-some (sym (ap (beyond b) f) ∙ e)
-    go false h e (Some s) f k = subst (Whole-in (b ∷ bs)) (same_Some (record { text = b ∷ s.text; rest = s.rest }) r (sym (ap (beyond b) f) ∙ e)) (ap (λ t. b ∷ t) (k s refl))
+    go false h e (Some s) f k =
+        subst (Whole-in (b ∷ bs)) (same_Some (record { text = b ∷ s.text; rest = s.rest }) r (sym (ap (beyond b) f) ∙ e))
+        (ap (λ t. b ∷ t) (k s refl))
 
 pub code-written : (text : List ℕ) (span : Reading) → code_span text ≡ Some span → Written (Code span.text) text span.rest
 unfolding code_span
@@ -94,7 +107,8 @@ code-written text span e = by (run_length 96 text) (run-whole 96 text) e
               source = marks ++ (r.text ++ marks);
               is = whole ∙ ap (λ t. marks ++ t) (up_to-whole (suc n) false rest r f) ∙ grouped marks r.text r.rest
                   ∙ ap (λ (s : Reading). (marks ++ (r.text ++ marks)) ++ s.rest) same;
-              law = subst (λ i. IsWritten i (marks ++ (r.text ++ marks))) (sym (outs-Code span.text)) (n, r.text, refl, ap (λ (s : Reading). s.text) (sym same));
+              law = subst (λ i. IsWritten i (marks ++ (r.text ++ marks))) (sym (outs-Code span.text))
+                  (n, r.text, refl, ap (λ (s : Reading). s.text) (sym same));
             }
 
 -- Autolinks and raw HTML
@@ -105,7 +119,8 @@ front-whole test [] = refl
 front-whole test (b ∷ bs) = go (test b) (front-whole test bs)
   where
     go : (c : Bool) → bs ≡ front_of test bs ++ skip test bs
-        → b ∷ bs ≡ elim c as (λ _. List ℕ) [ true ↦ b ∷ front_of test bs | false ↦ [] ] ++ elim c as (λ _. List ℕ) [ true ↦ skip test bs | false ↦ b ∷ bs ]
+        → b ∷ bs ≡ elim c as (λ _. List ℕ) [ true ↦ b ∷ front_of test bs | false ↦ [] ] ++ elim c as (λ _. List ℕ)
+        [ true ↦ skip test bs | false ↦ b ∷ bs ]
     go true e = ap (λ t. b ∷ t) e
     go false e = refl
 
@@ -116,18 +131,25 @@ angles-whole text r e = go (after_word (codes "<") text) refl e
     inside-of : Option (List ℕ) → Option Reading
     inside-of o = o and_then λ inside. ended (front_of is_inside inside) (after_word (codes ">") (skip is_inside inside))
 
-    go : (o : Option (List ℕ)) → after_word (codes "<") text ≡ o → inside-of o ≡ Some r → text ≡ codes "<" ++ (r.text ++ (codes ">" ++ r.rest))
+    go : (o : Option (List ℕ)) → after_word (codes "<") text ≡ o → inside-of o ≡ Some r
+        → text ≡ codes "<" ++ (r.text ++ (codes ">" ++ r.rest))
     go None f e = none-some e
     go (Some inside) f e = by (after_word (codes ">") (skip is_inside inside)) refl e
       where
         front : List ℕ
         front = front_of is_inside inside
 
-        by : (o : Option (List ℕ)) → after_word (codes ">") (skip is_inside inside) ≡ o → ended front o ≡ Some r → text ≡ codes "<" ++ (r.text ++ (codes ">" ++ r.rest))
+        by : (o : Option (List ℕ)) → after_word (codes ">") (skip is_inside inside) ≡ o → ended front o ≡ Some r
+            → text ≡ codes "<" ++ (r.text ++ (codes ">" ++ r.rest))
         by None g e = none-some e
         by (Some rest) g e =
-            subst (λ (s : Reading). text ≡ codes "<" ++ (s.text ++ (codes ">" ++ s.rest))) (same_Some (record { text = front; rest = rest }) r e)
-            (word-front (codes "<") text inside f ∙ ap (λ t. codes "<" ++ t) (front-whole is_inside inside ∙ ap (λ t. front ++ t) (word-front (codes ">") (skip is_inside inside) rest g)))
+            subst (λ (s : Reading). text ≡ codes "<" ++ (s.text ++ (codes ">" ++ s.rest))) (same_Some (record {
+              text =
+                  front;
+              rest = rest;
+            }) r e)
+            (word-front (codes "<") text inside f ∙ ap (λ t. codes "<" ++ t)
+            (front-whole is_inside inside ∙ ap (λ t. front ++ t) (word-front (codes ">") (skip is_inside inside) rest g)))
 
 link-written : (text : List ℕ) (link : Autolink) → autolink text ≡ Some link → Written (link_of link) text link.rest
 unfolding autolink as_autolink
@@ -136,25 +158,36 @@ link-written text link e = go (in_angles text) refl e
     grouped : (a b c d : List ℕ) → a ++ (b ++ (c ++ d)) ≡ (a ++ (b ++ c)) ++ d
     grouped a b c d = simp append_assoc refl
 
-    made : (r : Reading) → text ≡ codes "<" ++ (r.text ++ (codes ">" ++ r.rest)) → (link : Autolink) → r.text ≡ link.text → r.rest ≡ link.rest → Written (link_of link) text link.rest
+    made : (r : Reading) → text ≡ codes "<" ++ (r.text ++ (codes ">" ++ r.rest)) → (link : Autolink) → r.text ≡ link.text
+        → r.rest ≡ link.rest → Written (link_of link) text link.rest
     made r whole link same left = record {
       source = codes "<" ++ (link.text ++ codes ">");
-      is = whole ∙ grouped (codes "<") r.text (codes ">") r.rest ∙ ap (λ t. (codes "<" ++ (t ++ codes ">")) ++ r.rest) same ∙ ap (λ t. (codes "<" ++ (link.text ++ codes ">")) ++ t) left;
-      law = subst (λ i. IsWritten i (codes "<" ++ (link.text ++ codes ">"))) (sym (outs-Link link.destination [] (Text link.text ∷ []))) (link.text, refl, refl, refl);
+      is = whole ∙ grouped (codes "<") r.text (codes ">") r.rest ∙ ap (λ t. (codes "<" ++ (t ++ codes ">")) ++ r.rest) same
+          ∙ ap (λ t. (codes "<" ++ (link.text ++ codes ">")) ++ t) left;
+      law = subst (λ i. IsWritten i (codes "<" ++ (link.text ++ codes ">"))) (sym (outs-Link link.destination [] (Text link.text ∷ [])))
+          (link.text, refl, refl, refl);
     }
 
-    go : (o : Option Reading) → in_angles text ≡ o → elim o as (λ _. Option Autolink) [ Some r ↦ as_autolink r | None ↦ None ] ≡ Some link → Written (link_of link) text link.rest
+    go : (o : Option Reading) → in_angles text ≡ o → elim o as (λ _. Option Autolink) [ Some r ↦ as_autolink r | None ↦ None ] ≡ Some link
+        → Written (link_of link) text link.rest
     go None f e = none-some e
     go (Some r) f e = by (is_absolute r.text) (is_address r.text) e
       where
         whole : text ≡ codes "<" ++ (r.text ++ (codes ">" ++ r.rest))
         whole = angles-whole text r f
 
-        this : (found : Autolink) → Some found ≡ Some link → r.text ≡ found.text → r.rest ≡ found.rest → Written (link_of link) text link.rest
-        this found e same left = subst (λ (l : Autolink). Written (link_of l) text l.rest) (same_Some found link e) (made r whole found same left)
+        this : (found : Autolink) → Some found ≡ Some link → r.text ≡ found.text → r.rest ≡ found.rest
+            → Written (link_of link) text link.rest
+        this found e same left =
+            subst (λ (l : Autolink). Written (link_of l) text l.rest) (same_Some found link e) (made r whole found same left)
 
         by : (absolute address : Bool) → (if absolute then Some (record { destination = r.text; text = r.text; rest = r.rest })
-            else (if address then Some (record { destination = codes "mailto:" ++ r.text; text = r.text; rest = r.rest }) else None)) ≡ Some link → Written (link_of link) text link.rest
+            else (if address then Some (record {
+              destination =
+                  codes "mailto:" ++ r.text;
+              text = r.text;
+              rest = r.rest;
+            }) else None)) ≡ Some link → Written (link_of link) text link.rest
         by true address e = this _ e refl refl
         by false true e = this _ e refl refl
         by false false e = none-some e
@@ -180,17 +213,24 @@ unfoldable pub left_after : Angled → List ℕ
 left_after (Addressed link) = link.rest
 left_after (Tagged tag) = tag.rest
 
-pub angle-written : (rules : Rules) (text : List ℕ) (found : Angled) → at_angle rules text ≡ Some found → Written (inline_in found) text (left_after found)
+pub angle-written : (rules : Rules) (text : List ℕ) (found : Angled) → at_angle rules text ≡ Some found
+    → Written (inline_in found) text (left_after found)
 unfolding at_angle followed_autolink inline_in left_after
 angle-written rules text found e = go (autolink text) (raw_html rules text) refl refl e
   where
-    tag : (html : Option (List ℕ)) → raw_html rules text ≡ html → tagged text html ≡ Some found → Written (inline_in found) text (left_after found)
+    tag : (html : Option (List ℕ)) → raw_html rules text ≡ html → tagged text html ≡ Some found
+        → Written (inline_in found) text (left_after found)
     tag None g e = none-some e
     tag (Some rest) g e =
-        subst (λ f. Written (inline_in f) text (left_after f)) (same_Some (Tagged (record { text = before rest text; rest = rest })) found e) (html-written rules text rest g)
+        subst (λ f. Written (inline_in f) text (left_after f)) (same_Some (Tagged (record {
+          text =
+              before rest text;
+          rest = rest;
+        })) found e) (html-written rules text rest g)
 
     go : (link : Option Autolink) (html : Option (List ℕ)) → autolink text ≡ link → raw_html rules text ≡ html
-        → elim (link_if_followed rules link) as (λ _. Option Angled) [ Some link ↦ Some (Addressed link) | None ↦ tagged text html ] ≡ Some found → Written (inline_in found) text (left_after found)
+        → elim (link_if_followed rules link) as (λ _. Option Angled)
+        [ Some link ↦ Some (Addressed link) | None ↦ tagged text html ] ≡ Some found → Written (inline_in found) text (left_after found)
     go None html f g e = tag html g e
     go (Some link) html f g e = by (is_followed rules link.destination) e
       where
@@ -200,17 +240,20 @@ angle-written rules text found e = go (autolink text) (raw_html rules text) refl
 
 -- Line breaks
 
-pub break-written : (text rest : List ℕ) → after_word (codes "\n") (after_run 32 text) ≡ Some rest → Written (if nat_le 2 (run_length 32 text) then Hard else Soft) text rest
+pub break-written : (text rest : List ℕ) → after_word (codes "\n") (after_run 32 text) ≡ Some rest
+    → Written (if nat_le 2 (run_length 32 text) then Hard else Soft) text rest
 break-written text rest e = record { source = spaces ++ codes "\n"; is = whole; law = law (nat_le 2 (run_length 32 text)) refl }
   where
     spaces : List ℕ
     spaces = replicate (run_length 32 text) 32
 
     whole : text ≡ (spaces ++ codes "\n") ++ rest
-    whole = run-whole 32 text ∙ ap (λ t. spaces ++ t) (word-front (codes "\n") (after_run 32 text) rest e) ∙ sym (append_assoc spaces (codes "\n") rest)
+    whole = run-whole 32 text ∙ ap (λ t. spaces ++ t) (word-front (codes "\n") (after_run 32 text) rest e)
+        ∙ sym (append_assoc spaces (codes "\n") rest)
 
     law : (hard : Bool) → nat_le 2 (run_length 32 text) ≡ hard → IsWritten (out-Inline (if hard then Hard else Soft)) (spaces ++ codes "\n")
-    law true h = subst (λ i. IsWritten i (spaces ++ codes "\n")) (sym outs-Hard) (inl (run_length 32 text, grind (arith, nat_tests, h), refl))
+    law true h =
+        subst (λ i. IsWritten i (spaces ++ codes "\n")) (sym outs-Hard) (inl (run_length 32 text, grind (arith, nat_tests, h), refl))
     law false h = subst (λ i. IsWritten i (spaces ++ codes "\n")) (sym outs-Soft) (run_length 32 text, grind (arith, nat_tests, h), refl)
 
 pub backslash-written : (text rest : List ℕ) → after_word (codes "\\\n") text ≡ Some rest → Written Hard text rest
