@@ -1,8 +1,8 @@
 //! Laws of where the inlines of a leaf are in its source. Each is the contract of a public function with an
 //! empty body.
 ghost use Rattle.cm_scan.specs.laws.CutExamples.{CutEmphasisExamples, CutLinkExamples};
-ghost use Rattle.cm_scan.specs.laws.CutExamples.{CutSingleExamples, CutTextExamples, PlaceExamples};
-ghost use Rattle.cm_scan.specs.laws.CutLaws.{OneCut, PlainTextsAreSources, SinglesAreWritten};
+ghost use Rattle.cm_scan.specs.laws.CutExamples.{CutAtomExamples, CutTextExamples, PlaceExamples};
+ghost use Rattle.cm_scan.specs.laws.CutLaws.{OneCut, PlainTextsAreSources, AtomsAreWritten};
 ghost use Rattle.cm_scan.specs.laws.CutLaws.{SourcesAreCut, TailsAreWritten};
 ghost use Rattle.cm_scan.specs.inlines.Places.{PlacesAreNested, PlacesAreSources, PlacesAreWithin};
 
@@ -18,7 +18,7 @@ pub fn sources_are_cut()
 /// brackets after it.
 pub fn sources_are_written()
     ensures text { PlainTextsAreSources }
-    ensures single { SinglesAreWritten }
+    ensures atom { AtomsAreWritten }
     ensures tail { TailsAreWritten }
 {}
 
@@ -27,7 +27,7 @@ pub fn cut_examples()
     ensures text { CutTextExamples }
     ensures emphasis { CutEmphasisExamples }
     ensures link { CutLinkExamples }
-    ensures single { CutSingleExamples }
+    ensures atom { CutAtomExamples }
     ensures place { PlaceExamples }
 {}
 

@@ -10,12 +10,12 @@ use Rattle.cm_scan.specs.inlines.Atoms.{AtomRead, Whole, read, atom_at}
 use Rattle.cm_scan.specs.inlines.Brackets.{Defined, link_end, end_at}
 use Rattle.cm_scan.specs.inlines.Pairing.{bracket_text, emphasised}
 
--- An inline and its source: text; another inline without inlines inside; inlines between characters of two delimiter runs; and inlines
--- between brackets, with what follows the `]`.
+-- An inline with its source: text; a code span, an autolink, raw HTML or a line break; inlines between characters of two delimiter runs;
+-- and the inlines of a link or an image between its brackets, with what follows the `]`.
 mutual
   pub data Node : Type 0 where
-    words : (text source : List ℕ) → Node
-    single : Inline → (source : List ℕ) → Node
+    textual : (text source : List ℕ) → Node
+    atomic : Inline → (source : List ℕ) → Node
     emphasis : (character count : ℕ) → Nodes → Node
     bracketed : (image : Bool) → (dest title : List ℕ) → Nodes → (tail : List ℕ) → Node
 
@@ -29,8 +29,8 @@ link_or_image true dest title inside = Image dest title inside
 
 unfoldable mutual
   pub inline_of : Node → Inline
-  inline_of (words text source) = Text text
-  inline_of (single inline source) = inline
+  inline_of (textual text source) = Text text
+  inline_of (atomic inline source) = inline
   inline_of (emphasis character count inside) = emphasised character count (inlines_of inside)
   inline_of (bracketed image dest title inside tail) = link_or_image image dest title (inlines_of inside)
 
@@ -40,8 +40,8 @@ unfoldable mutual
 
 unfoldable mutual
   pub source_of : Node → List ℕ
-  source_of (words text source) = source
-  source_of (single inline source) = source
+  source_of (textual text source) = source
+  source_of (atomic inline source) = source
   source_of (emphasis character count inside) = replicate count character ++ (sources_of inside ++ replicate count character)
   source_of (bracketed image dest title inside tail) = bracket_text image ++ (sources_of inside ++ (codes "]" ++ tail))
 
@@ -49,45 +49,51 @@ unfoldable mutual
   sources_of none = []
   sources_of (node n ns) = source_of n ++ sources_of ns
 
--- the first character of a text, and what is left: an escape or a reference is resolved, and any other byte is itself
+-- The first of a text, and what is left: an escape or a reference is resolved, and any other byte is itself.
 abbrev pub first_resolved : ℕ → List ℕ → List ℕ × List ℕ
-first_resolved b bs = elim (special (b ∷ bs)) [ Some found ↦ (encode_utf8_all found.0, drop found.1 (b ∷ bs)) | None ↦ (b ∷ [], bs) ]
+first_resolved b bs = elim (special (b ∷ bs)) [
+  | Some found ↦ (encode_utf8_all found.0, drop found.1 (b ∷ bs))
+  | None ↦ (b ∷ [], bs)
+]
 
--- so many characters of a text one after another, and what is left
+-- the same so many times, one after another
 unfoldable pub resolved : ℕ → List ℕ → List ℕ × List ℕ
 resolved zero source = ([], source)
 resolved (suc n) [] = ([], [])
 resolved (suc n) (b ∷ bs) = let first = first_resolved b bs in let more = resolved n first.1 in (first.0 ++ more.0, more.1)
 
--- The source, where this comes after it, has this text.
+-- The source, where this comes after it, is this text with its escapes and references resolved.
 abbrev pub IsTextOf : (text source after : List ℕ) → Type 0
 IsTextOf text source after = (n : ℕ) × (resolved n (source ++ after) ≡ (text, after))
 
--- what a source starts with; an inline without inlines inside is the same whatever comes before it
+-- The atom at the start of a source, if it isn't a delimiter run: only for these does it matter what comes before.
 abbrev pub first_atom : Rules → List ℕ → Option AtomRead
 first_atom rules [] = None
 first_atom rules (b ∷ bs) = Some (atom_at rules [] b bs)
 
 -- one character for emphasis, two for strong emphasis, and two tildes for strikethrough
 abbrev pub encloses : (character count : ℕ) → Bool
-encloses character count = (character == byte "*" || character == byte "_") && (count == 1 || count == 2) || character == byte "~" && count == 2
+encloses character count =
+    (character == byte "*" || character == byte "_") && (count == 1 || count == 2) || character == byte "~" && count == 2
 
 module _ (rules : Rules) (defined : Defined) where
-  -- The source of a node, where this comes after it, is read as its inline: what it stands for by its escapes and references; an atom;
-  -- what is between the same characters; or what is between brackets, with the end of a link or an image after the `]`.
+  -- The source of a node, where this comes after it, is read as its inline: by its escapes and references; as one atom; as what is
+  -- between the same characters; or as what is between brackets, with the end of a link or an image after the `]`.
   abbrev mutual
     pub IsCut : Node → (after : List ℕ) → Type 0
-    IsCut (words text source) after = IsTextOf text source after
-    IsCut (single inline source) after = first_atom rules (source ++ after) ≡ read (Whole inline) after
-    IsCut (emphasis character count inside) after = (encloses character count ≡ true) × AreCut inside (replicate count character ++ after)
+    IsCut (textual text source) after = IsTextOf text source after
+    IsCut (atomic inline source) after = first_atom rules (source ++ after) ≡ read (Whole inline) after
+    IsCut (emphasis character count inside) after =
+        (encloses character count ≡ true) × AreCut inside (replicate count character ++ after)
     IsCut (bracketed image dest title inside tail) after =
-        (end_at rules defined (sources_of inside) (tail ++ after) ≡ Some (link_end (dest, title) after)) × AreCut inside (codes "]" ++ (tail ++ after))
+        (end_at rules defined (sources_of inside) (tail ++ after) ≡ Some (link_end (dest, title) after))
+        × AreCut inside (codes "]" ++ (tail ++ after))
 
     pub AreCut : Nodes → (after : List ℕ) → Type 0
     AreCut none after = ⊤
     AreCut (node n ns) after = IsCut n (sources_of ns ++ after) × AreCut ns after
 
-  -- The source, where this comes after it, is cut into these nodes, which have these inlines.
+  -- The source, where this comes after it, is cut into these nodes, and they have these inlines.
   pub record CutInto (nodes : Nodes) (inlines : List Inline) (source after : List ℕ) : Type 0 where
     pub inlines_are : inlines_of nodes ≡ inlines
     pub whole : sources_of nodes ≡ source

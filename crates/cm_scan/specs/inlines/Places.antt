@@ -2,9 +2,9 @@
 use Rattle.std.specs.Prelude.{◌≡◌, ℕ, ◌+◌, ◌≤◌, List, [], ◌∷◌, ◌++◌, length, ⊤, ◌⊎◌}
 use Rattle.std.specs.List.{All, slice_range}
 use Rattle.cm_scan.specs.inlines.Pairing.{bracket_text}
-use Rattle.cm_scan.specs.inlines.Cuts.{Node, words, single, emphasis, bracketed, Nodes, none, node, source_of, sources_of}
+use Rattle.cm_scan.specs.inlines.Cuts.{Node, textual, atomic, emphasis, bracketed, Nodes, none, node, source_of, sources_of}
 
--- a node with the place of its first byte and the place after its last
+-- a node, where it starts, and where it ends: after its last byte
 pub record Place : Type 0 where
   pub of : Node
   pub start : ℕ
@@ -13,11 +13,11 @@ pub record Place : Type 0 where
 abbrev pub place_at : ℕ → Node → Place
 place_at start n = record { of = n; start = start; end = start + length (source_of n) }
 
--- The places of nodes of which the first starts here: that of a node comes before those of the nodes inside it.
+-- The places of nodes, the first of them at this start: a node comes before those inside it.
 unfoldable mutual
   pub places_at : (start : ℕ) → Node → List Place
-  places_at start (words text source) = place_at start (words text source) ∷ []
-  places_at start (single inline source) = place_at start (single inline source) ∷ []
+  places_at start (textual text source) = place_at start (textual text source) ∷ []
+  places_at start (atomic inline source) = place_at start (atomic inline source) ∷ []
   places_at start (emphasis character count inside) = place_at start (emphasis character count inside) ∷ places_from (start + count) inside
   places_at start (bracketed image dest title inside tail) =
       place_at start (bracketed image dest title inside tail) ∷ places_from (start + length (bracket_text image)) inside
@@ -32,11 +32,13 @@ places_of nodes = places_from 0 nodes
 
 -- The bytes at each place of a source are the source of its node.
 abbrev pub PlacesAreSources : Type 0
-PlacesAreSources = (nodes : Nodes) → All (λ (place : Place). slice_range (sources_of nodes) place.start place.end ≡ source_of place.of) (places_of nodes)
+PlacesAreSources = (nodes : Nodes)
+    → All (λ (place : Place). slice_range (sources_of nodes) place.start place.end ≡ source_of place.of) (places_of nodes)
 
--- each place is within the source
+-- Each place is within the source.
 abbrev pub PlacesAreWithin : Type 0
-PlacesAreWithin = (nodes : Nodes) → All (λ (place : Place). (place.start ≤ place.end) × (place.end ≤ length (sources_of nodes))) (places_of nodes)
+PlacesAreWithin = (nodes : Nodes)
+    → All (λ (place : Place). (place.start ≤ place.end) × (place.end ≤ length (sources_of nodes))) (places_of nodes)
 
 -- a place is inside another, or after it
 abbrev pub IsInsideOrAfter : Place → Place → Type 0

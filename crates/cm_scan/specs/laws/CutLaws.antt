@@ -9,11 +9,12 @@ use Rattle.cm_tree.specs.declared.tree.Inline.TheVariants.{Text}
 use Rattle.cm_scan.specs.spans.CodeSpans.{one_line, stripped}
 use Rattle.cm_scan.specs.inlines.Brackets.{Defined}
 use Rattle.cm_scan.specs.inlines.Inlines as inlines
-use Rattle.cm_scan.specs.inlines.Cuts.{Nodes, words, single, bracketed, IsCut, CutInto}
+use Rattle.cm_scan.specs.inlines.Cuts.{Nodes, textual, atomic, bracketed, IsCut, CutInto}
 
 -- The source of each leaf is cut into the inlines that are read from it.
 abbrev pub SourcesAreCut : Type 0
-SourcesAreCut = (rules : Rules) (defined : Defined) (source : List ℕ) → (nodes : Nodes) × CutInto rules defined nodes (inlines.inlines_of rules defined source) source []
+SourcesAreCut = (rules : Rules) (defined : Defined) (source : List ℕ)
+    → (nodes : Nodes) × CutInto rules defined nodes (inlines.inlines_of rules defined source) source []
 
 -- A source is cut into given inlines in one way.
 abbrev pub OneCut : Type 0
@@ -26,28 +27,30 @@ is_itself b = not (b == byte "\\") && not (b == byte "&")
 
 -- A text without escapes and references is its source.
 abbrev pub PlainTextsAreSources : Type 0
-PlainTextsAreSources = (rules : Rules) (defined : Defined) (text source after : List ℕ) → IsCut rules defined (words text source) after
-    → list_all is_itself source ≡ true → text ≡ source
+PlainTextsAreSources = (rules : Rules) (defined : Defined) (text source after : List ℕ)
+    → IsCut rules defined (textual text source) after → list_all is_itself source ≡ true → text ≡ source
 
--- a text that is between these words, with them
+-- the words, with something between them
 abbrev pub IsBetween : (front back text : List ℕ) → Type 0
 IsBetween front back text = (inside : List ℕ) × (text ≡ front ++ (inside ++ back))
 
--- How an inline without inlines inside is written: a code span as its content between two backtick strings of equal length; an
--- autolink as its text between `<` and `>`; raw HTML as it is; a soft line break as a line feed after at most one space; and a hard
--- line break as a line feed after two spaces or more, or after a backslash.
+-- How an atom is written: a code span as its content between two backtick strings of equal length; an autolink as its text between `<`
+-- and `>`; raw HTML as it is; a soft line break as a line feed after at most one space; and a hard line break as a line feed after two
+-- spaces or more, or after a backslash.
 abbrev pub IsWritten : Inline-F Inline → (source : List ℕ) → Type 0
 IsWritten (inline.Code text) source =
-    (n : ℕ) × (content : List ℕ) × (source ≡ replicate (suc n) (byte "`") ++ (content ++ replicate (suc n) (byte "`"))) × (text ≡ stripped (one_line content))
-IsWritten (inline.Link dest title content) source = (text : List ℕ) × (source ≡ codes "<" ++ (text ++ codes ">")) × (title ≡ []) × (content ≡ Text text ∷ [])
+    (n : ℕ) × (content : List ℕ) × (source ≡ replicate (suc n) (byte "`") ++ (content ++ replicate (suc n) (byte "`")))
+    × (text ≡ stripped (one_line content))
+IsWritten (inline.Link dest title content) source =
+    (text : List ℕ) × (source ≡ codes "<" ++ (text ++ codes ">")) × (title ≡ []) × (content ≡ Text text ∷ [])
 IsWritten (inline.Html text) source = source ≡ text
 IsWritten inline.Soft source = (n : ℕ) × (n ≤ 1) × (source ≡ replicate n (byte " ") ++ codes "\n")
 IsWritten inline.Hard source = ((n : ℕ) × (2 ≤ n) × (source ≡ replicate n (byte " ") ++ codes "\n")) ⊎ (source ≡ codes "\\\n")
 IsWritten _ source = ⊥
 
-abbrev pub SinglesAreWritten : Type 0
-SinglesAreWritten = (rules : Rules) (defined : Defined) (inline : Inline) (source after : List ℕ) → IsCut rules defined (single inline source) after
-    → IsWritten (out-Inline inline) source
+abbrev pub AtomsAreWritten : Type 0
+AtomsAreWritten = (rules : Rules) (defined : Defined) (inline : Inline) (source after : List ℕ)
+    → IsCut rules defined (atomic inline source) after → IsWritten (out-Inline inline) source
 
 -- what follows the `]` of a link or an image: nothing, or a part in parentheses or in brackets
 abbrev pub IsTail : List ℕ → Type 0

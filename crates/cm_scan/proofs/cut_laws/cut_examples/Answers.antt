@@ -43,9 +43,9 @@ returns-clause-link c = record {
   tail_over_backticks = record { inlines_are = refl; whole = refl; cut = ((refl, ((1, refl), tt)), ((1, refl), tt)) };
 }
 
-pub returns-clause-single : goal.returns-clause-single
+pub returns-clause-atom : goal.returns-clause-atom
 unfolding inline_structure inline_of inlines_of source_of sources_of resolved
-returns-clause-single c = record {
+returns-clause-atom c = record {
   code_span = record { inlines_are = refl; whole = refl; cut = (refl, ((1, refl), tt)) };
   autolink = record { inlines_are = refl; whole = refl; cut = (refl, ((1, refl), tt)) };
   raw_html = record { inlines_are = refl; whole = refl; cut = ((1, refl), (refl, ((1, refl), tt))) };

@@ -347,9 +347,9 @@ whole-anywhere rules before b bs inline rest e = ap (λ (a : AtomRead). Some a) 
     go false e = e
 
 -- and it is written as its kind is
-pub single-written : (rules : Rules) (source : List ℕ) (inline : Inline) (after : List ℕ)
+pub atom-written : (rules : Rules) (source : List ℕ) (inline : Inline) (after : List ℕ)
     → first_atom rules (source ++ after) ≡ read (Whole inline) after → IsWritten (out-Inline inline) source
-single-written rules source inline after e = go (source ++ after) refl e
+atom-written rules source inline after e = go (source ++ after) refl e
   where
     go : (text : List ℕ) → source ++ after ≡ text → first_atom rules text ≡ read (Whole inline) after → IsWritten (out-Inline inline) source
     go [] is e = none-some e

@@ -6,7 +6,7 @@ use Rattle.std.proofs.Math.Seq.{drop-length, take-length, take-append-le, drop-a
 use Rattle.std.proofs.lemmas.List.{length-replicate}
 use Rattle.std.proofs.lemmas.List.Elements.{All-nil, All-append, All-from_recursion}
 use Rattle.cm_scan.specs.inlines.Pairing.{bracket_text}
-use Rattle.cm_scan.specs.inlines.Cuts.{Node, words, single, emphasis, bracketed, Nodes, none, node, source_of, sources_of}
+use Rattle.cm_scan.specs.inlines.Cuts.{Node, textual, atomic, emphasis, bracketed, Nodes, none, node, source_of, sources_of}
 use Rattle.cm_scan.specs.inlines.Places.{Place, place_at, places_at, places_from, places_of, PlacesAreSources, PlacesAreWithin, IsInsideOrAfter, AreNested, PlacesAreNested}
 
 each-weaker : (P Q : Place → Type 0) → ((p : Place) → P p → Q p) → (ps : List Place) → Each P ps → Each Q ps
@@ -58,8 +58,8 @@ mutual
   unfolding places_at places_from sources_of
 
   within-node : (start : ℕ) (n : Node) → Each (IsWithin start (start + length (source_of n))) (places_at start n)
-  within-node start (words t s) = (here start (words t s), tt)
-  within-node start (single i s) = (here start (single i s), tt)
+  within-node start (textual t s) = (here start (textual t s), tt)
+  within-node start (atomic i s) = (here start (atomic i s), tt)
   within-node start (emphasis c n ns) = (
     here start (emphasis c n ns),
     inside-node start (emphasis c n ns) n (length (sources_of ns)) (emphasis-fits c n ns)
@@ -122,8 +122,8 @@ mutual
   unfolding places_at places_from
 
   nested-node : (start : ℕ) (n : Node) → AreNested (places_at start n)
-  nested-node start (words t s) = (All-nil (IsInsideOrAfter (place_at start (words t s))), tt)
-  nested-node start (single i s) = (All-nil (IsInsideOrAfter (place_at start (single i s))), tt)
+  nested-node start (textual t s) = (All-nil (IsInsideOrAfter (place_at start (textual t s))), tt)
+  nested-node start (atomic i s) = (All-nil (IsInsideOrAfter (place_at start (atomic i s))), tt)
   nested-node start (emphasis c n ns) = (
     inside-here start (emphasis c n ns) n (length (sources_of ns)) (emphasis-fits c n ns) (places_from (start + n) ns)
         (within-nodes (start + n) ns),
@@ -180,8 +180,8 @@ mutual
   unfolding places_at places_from source_of sources_of
 
   source-node : (front back : List ℕ) (n : Node) → Each (IsSource (front ++ (source_of n ++ back))) (places_at (length front) n)
-  source-node front back (words t s) = (middle-of front s back, tt)
-  source-node front back (single i s) = (middle-of front s back, tt)
+  source-node front back (textual t s) = (middle-of front s back, tt)
+  source-node front back (atomic i s) = (middle-of front s back, tt)
   source-node front back (emphasis c n ns) =
       let marks = replicate n c in (
         middle-of front (marks ++ (sources_of ns ++ marks)) back,

@@ -11,12 +11,12 @@ use Rattle.cm_scan.specs.inlines.Atoms.{Atom, AtomRead, Whole, OpenBracket, read
 use Rattle.cm_scan.specs.inlines.Brackets.{Defined, LinkEnd, link_end, end_at}
 use Rattle.cm_scan.specs.inlines.Pairing.{bracket_text, emphasised}
 use Rattle.cm_scan.specs.Words.{after_word}
-use Rattle.cm_scan.specs.inlines.Cuts.{Node, words, single, emphasis, bracketed, Nodes, none, node, link_or_image, inline_of, inlines_of, source_of, sources_of, resolved, IsTextOf, first_atom, encloses, IsCut, AreCut, CutInto}
-use Rattle.cm_scan.specs.laws.CutLaws.{OneCut, PlainTextsAreSources, SinglesAreWritten, IsTail, TailsAreWritten}
+use Rattle.cm_scan.specs.inlines.Cuts.{Node, textual, atomic, emphasis, bracketed, Nodes, none, node, link_or_image, inline_of, inlines_of, source_of, sources_of, resolved, IsTextOf, first_atom, encloses, IsCut, AreCut, CutInto}
+use Rattle.cm_scan.specs.laws.CutLaws.{OneCut, PlainTextsAreSources, AtomsAreWritten, IsTail, TailsAreWritten}
 use Rattle.cm_scan.proofs.lemmas.inlines.LeftByEachStep.{end_at-tail}
 use Rattle.cm_scan.proofs.lemmas.cuts.InlineParts.{kind, kind-written, text, content, dest, title, kind-text, text-text, kind-link, content-link, dest-link, title-link, kind-emphasised, content-emphasised}
 use Rattle.cm_scan.proofs.lemmas.cuts.ResolvedTexts.{same-end, taken_from, left_of, plain-text}
-use Rattle.cm_scan.proofs.lemmas.cuts.AtomsTaken.{is_whole, single-written}
+use Rattle.cm_scan.proofs.lemmas.cuts.AtomsTaken.{is_whole, atom-written}
 
 -- what follows the same text is the same
 text-end : (t s r a b : List ℕ) → s ++ a ≡ r ++ b → IsTextOf t s a → IsTextOf t r b → a ≡ b
@@ -104,21 +104,21 @@ module _ (rules : Rules) (defined : Defined) where
   same-source : (s r a b : List ℕ) → s ++ a ≡ r ++ b → a ≡ b → s ≡ r
   same-source s r a b same e = append_cancel_right s r b (ap (λ t. s ++ t) (sym e) ∙ same)
 
-  same-words : (t s u r a b : List ℕ) → Text t ≡ Text u → s ++ a ≡ r ++ b → IsTextOf t s a → IsTextOf u r b
-      → Same (words t s) (words u r) a b
+  same-textual : (t s u r a b : List ℕ) → Text t ≡ Text u → s ++ a ≡ r ++ b → IsTextOf t s a → IsTextOf u r b
+      → Same (textual t s) (textual u r) a b
   unfolding Same
-  same-words t s u r a b i same w v =
+  same-textual t s u r a b i same w v =
       let is : t ≡ u = sym (text-text t) ∙ ap text i ∙ text-text u in
       let e : a ≡ b = text-end u s r a b same (subst (λ x. IsTextOf x s a) is w) v in
-      (ap (λ x. words x s) is ∙ ap (λ x. words u x) (same-source s r a b same e), e)
+      (ap (λ x. textual x s) is ∙ ap (λ x. textual u x) (same-source s r a b same e), e)
 
-  same-single : (i : Inline) (s : List ℕ) (j : Inline) (r a b : List ℕ) → i ≡ j → s ++ a ≡ r ++ b
+  same-atomic : (i : Inline) (s : List ℕ) (j : Inline) (r a b : List ℕ) → i ≡ j → s ++ a ≡ r ++ b
       → first_atom rules (s ++ a) ≡ read (Whole i) a → first_atom rules (r ++ b) ≡ read (Whole j) b
-      → Same (single i s) (single j r) a b
+      → Same (atomic i s) (atomic j r) a b
   unfolding Same
-  same-single i s j r a b is same w v =
+  same-atomic i s j r a b is same w v =
       let e : a ≡ b = ap (λ (x : AtomRead). x.rest) (same_Some _ _ (sym w ∙ ap (first_atom rules) same ∙ v)) in
-      (ap (λ x. single x s) is ∙ ap (λ x. single j x) (same-source s r a b same e), e)
+      (ap (λ x. atomic x s) is ∙ ap (λ x. atomic j x) (same-source s r a b same e), e)
 
   -- where the inlines inside are the same, with what follows them
   abbrev SameInside : Nodes → Nodes → Type 0
@@ -218,7 +218,7 @@ module _ (rules : Rules) (defined : Defined) where
   apart e = absurd e
 
   alone-kind : (s : List ℕ) (i : Inline) (a : List ℕ) → first_atom rules (s ++ a) ≡ read (Whole i) a → 5 ≤ kind i
-  alone-kind s i a h = kind-written i s (single-written rules s i a h)
+  alone-kind s i a h = kind-written i s (atom-written rules s i a h)
 
   alone-text : (s : List ℕ) (i : Inline) (a t : List ℕ) → i ≡ Text t → first_atom rules (s ++ a) ≡ read (Whole i) a → ⊥
   alone-text s i a t e h = absurd (omega (arith, alone-kind s i a h, ap kind e, kind-text t))
@@ -245,22 +245,22 @@ module _ (rules : Rules) (defined : Defined) where
 
     same-node : (n m : Node) (a b : List ℕ) → inline_of n ≡ inline_of m → source_of n ++ a ≡ source_of m ++ b → Cut n a → Cut m b
         → Same n m a b
-    same-node (words t s) (words u r) a b i same w v = same-words t s u r a b i same w v
-    same-node (single i s) (single j r) a b is same w v = same-single i s j r a b is same w v
+    same-node (textual t s) (textual u r) a b i same w v = same-textual t s u r a b i same w v
+    same-node (atomic i s) (atomic j r) a b is same w v = same-atomic i s j r a b is same w v
     same-node (emphasis c n ns) (emphasis d m ms) a b i same w v = same-emphasis c n ns d m ms a b (λ x y. same-nodes ns ms x y) i same w v
     same-node (bracketed i d t ns s) (bracketed j e u ms r) a b is same w v =
         same-bracketed i d t ns s j e u ms r a b (λ x y. same-nodes ns ms x y) is same w v
-    same-node (words t s) (single j r) a b i same w v = apart (alone-text r j b t (sym i) v)
-    same-node (words t s) (emphasis d m ms) a b i same w v = apart (text-emphasis t d m _ i)
-    same-node (words t s) (bracketed j e u ms r) a b i same w v = apart (text-link t j e u _ i)
-    same-node (single i s) (words u r) a b is same w v = apart (alone-text s i a u is w)
-    same-node (single i s) (emphasis d m ms) a b is same w v = apart (alone-emphasis s i a d m _ is w)
-    same-node (single i s) (bracketed j e u ms r) a b is same w v = apart (alone-bracketed _ i a j _ b same w)
-    same-node (emphasis c n ns) (words u r) a b i same w v = apart (text-emphasis u c n _ (sym i))
-    same-node (emphasis c n ns) (single j r) a b i same w v = apart (alone-emphasis r j b c n _ (sym i) v)
+    same-node (textual t s) (atomic j r) a b i same w v = apart (alone-text r j b t (sym i) v)
+    same-node (textual t s) (emphasis d m ms) a b i same w v = apart (text-emphasis t d m _ i)
+    same-node (textual t s) (bracketed j e u ms r) a b i same w v = apart (text-link t j e u _ i)
+    same-node (atomic i s) (textual u r) a b is same w v = apart (alone-text s i a u is w)
+    same-node (atomic i s) (emphasis d m ms) a b is same w v = apart (alone-emphasis s i a d m _ is w)
+    same-node (atomic i s) (bracketed j e u ms r) a b is same w v = apart (alone-bracketed _ i a j _ b same w)
+    same-node (emphasis c n ns) (textual u r) a b i same w v = apart (text-emphasis u c n _ (sym i))
+    same-node (emphasis c n ns) (atomic j r) a b i same w v = apart (alone-emphasis r j b c n _ (sym i) v)
     same-node (emphasis c n ns) (bracketed j e u ms r) a b i same w v = apart (emphasis-link c n _ j e u _ i)
-    same-node (bracketed i d t ns s) (words u r) a b is same w v = apart (text-link u i d t _ (sym is))
-    same-node (bracketed i d t ns s) (single j r) a b is same w v = apart (alone-bracketed _ j b i _ a (sym same) v)
+    same-node (bracketed i d t ns s) (textual u r) a b is same w v = apart (text-link u i d t _ (sym is))
+    same-node (bracketed i d t ns s) (atomic j r) a b is same w v = apart (alone-bracketed _ j b i _ a (sym same) v)
     same-node (bracketed i d t ns s) (emphasis c n ms) a b is same w v = apart (emphasis-link c n _ i d t _ (sym is))
 
     same-nodes : (ns ms : Nodes) (a b : List ℕ) → inlines_of ns ≡ inlines_of ms → sources_of ns ++ a ≡ sources_of ms ++ b
@@ -282,8 +282,8 @@ one_cut rules defined inlines source after nodes others w v =
 pub plain_texts_are_sources : PlainTextsAreSources
 plain_texts_are_sources rules defined text source after w h = plain-text source text after w h
 
-pub singles_are_written : SinglesAreWritten
-singles_are_written rules defined inline source after w = single-written rules source inline after w
+pub atoms_are_written : AtomsAreWritten
+atoms_are_written rules defined inline source after w = atom-written rules source inline after w
 
 pub tails_are_written : TailsAreWritten
 tails_are_written rules defined image dest title inside tail after w =

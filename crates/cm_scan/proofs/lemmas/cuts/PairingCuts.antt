@@ -8,7 +8,7 @@ use Rattle.cm_text.specs.Rules.{Rules}
 use Rattle.cm_scan.specs.inlines.Brackets.{Defined}
 use Rattle.cm_scan.specs.inlines.Delimiters.{Run}
 use Rattle.cm_scan.specs.inlines.Pairing.{Item, Characters, Finished, Linked, Delimiters, Opener, bracket_text, text_before, settled_after, settled, used, emphasised, without, paired, pair_once, pairs_within, room, pair_all, emphasis_of}
-use Rattle.cm_scan.specs.inlines.Cuts.{Node, words, emphasis, Nodes, none, node, inline_of, inlines_of, source_of, sources_of, IsTextOf, encloses, IsCut, AreCut, CutInto}
+use Rattle.cm_scan.specs.inlines.Cuts.{Node, textual, emphasis, Nodes, none, node, inline_of, inlines_of, source_of, sources_of, IsTextOf, encloses, IsCut, AreCut, CutInto}
 use Rattle.cm_scan.specs.laws.CutLaws.{is_itself}
 use Rattle.cm_scan.proofs.lemmas.inlines.PairingLemmas.{together, Split, leftmost-splits}
 use Rattle.cm_scan.proofs.lemmas.cuts.ResolvedTexts.{texts-joined, text-itself, run-itself, bracket-itself, nothing-written}
@@ -198,7 +198,7 @@ module _ (rules : Rules) (defined : Defined) where
       → Cuts (text_before u inlines) (s ++ source) after
   unfolding inline_of source_of
   cut-text [] s inlines source after t c = subst (λ l. Cuts inlines (l ++ source) after) (sym (nothing-written s (source ++ after) t)) c
-  cut-text (b ∷ bs) s inlines source after t c = cut-node (words (b ∷ bs) s) inlines source after t c
+  cut-text (b ∷ bs) s inlines source after t c = cut-node (textual (b ∷ bs) s) inlines source after t c
 
   cut-nothing : (after : List ℕ) → Cuts [] [] after
   unfolding inlines_of sources_of
