@@ -1,5 +1,5 @@
 -- What is left of a line in containers is an end of it, indentation aside.
-use Rattle.std.proofs.Common.{◌≡◌, ℕ, Bool, true, false, not, ◌&&◌, ◌||◌, ◌==◌, List, [], ◌∷◌, ◌++◌, drop, refl, sym, ◌∙◌}
+use Rattle.std.proofs.Common.{◌≡◌, ℕ, Bool, true, false, not, ◌&&◌, ◌||◌, ◌==◌, List, [], ◌∷◌, drop, refl, sym, ◌∙◌}
 use Rattle.std.specs.Prelude.{nat_le}
 use Rattle.cm_text.specs.Rules.{Rules}
 use Rattle.cm_text.specs.Lines.{LineView}
@@ -8,7 +8,7 @@ use Rattle.cm_text.proofs.lemmas.StripLemmas.{strip_takes_columns}
 use Rattle.cm_scan.specs.Words.{is_space_or_tab, skip, trim_start}
 use Rattle.cm_scan.specs.blocks.Lines.{is_blank, content_of, past, as_lazy}
 use Rattle.cm_scan.specs.blocks.LineForms.{marker_width}
-use Rattle.cm_scan.specs.blocks.Starts.{Start, QuoteMarker, IndentedCode, AtxHeading, OpeningFence, HtmlStart, BreakLine, ItemStart, TextLine, start_of, Continuation, Stays, StaysIfOpen, Leaves, may_be_lazy, continuation_if_lazy, after_quote_marker, quote_continuation, continuation_in_quote, after_marker, content_offset, first_content, item_continuation, continuation_in_item}
+use Rattle.cm_scan.specs.blocks.Starts.{Start, QuoteMarker, IndentedCode, AtxHeading, OpeningFence, HtmlStart, BreakLine, ItemStart, TextLine, start_of, Continuation, StaysIfOpen, Leaves, may_be_lazy, continuation_if_lazy, after_quote_marker, quote_continuation, continuation_in_quote, after_marker, content_offset, first_content, item_continuation, continuation_in_item}
 use Rattle.cm_scan.specs.laws.BlockLaws.{EndsLine, EndsIfInside, ContentEndsText, QuotedEndsLine, StayingInQuoteEndsLine, ListedEndsLine, StayingInItemEndsLine}
 use Rattle.cm_scan.proofs.lemmas.texts.EndsOfTexts.{same-left, end-of-end, skip-end, drop-end}
 

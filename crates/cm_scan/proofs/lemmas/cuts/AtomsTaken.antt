@@ -1,7 +1,7 @@
 -- What each atom takes of a source.
-use Rattle.std.proofs.Common.{◌≡◌, ℕ, zero, suc, ◌≤◌, Bool, true, false, not, ◌&&◌, ◌||◌, ◌==◌, List, [], ◌∷◌, ◌++◌, replicate, Option, Some, None, codes, encode_utf8_all, if◌then◌else◌, refl, sym, ap, subst, ◌∙◌, ◌<◌, arith, append-nil, drop}
+use Rattle.std.proofs.Common.{◌≡◌, ℕ, suc, Bool, true, false, ◌&&◌, ◌||◌, ◌==◌, List, [], ◌∷◌, ◌++◌, replicate, Option, Some, None, codes, encode_utf8_all, if◌then◌else◌, refl, sym, ap, subst, ◌∙◌, ◌<◌, arith, drop}
 use Rattle.std.specs.Prelude.{nat_le}
-use Rattle.std.proofs.lemmas.Bool.{and_parts, eqb-true, false≢true}
+use Rattle.std.proofs.lemmas.Bool.{eqb-true, false≢true}
 use Rattle.std.proofs.lemmas.Bool.Decides.{nat_tests}
 use Rattle.std.proofs.lemmas.List.{append_cancel_right}
 use Rattle.std.proofs.lemmas.Option.{same_Some}
@@ -220,11 +220,11 @@ tilde-takes rules before b bs h = go rules.strike (run_length 126 (b ∷ bs) == 
     go true false e = text-run 126 b bs refl
     go false w e = text-run 126 b bs refl
 
-abbrev first_byte : List ℕ → ℕ
+abbrev pub first_byte : List ℕ → ℕ
 first_byte [] = 0
 first_byte (b ∷ bs) = b
 
-abbrev other_bytes : List ℕ → List ℕ
+abbrev pub other_bytes : List ℕ → List ℕ
 other_bytes [] = []
 other_bytes (b ∷ bs) = bs
 

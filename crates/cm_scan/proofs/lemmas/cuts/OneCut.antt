@@ -1,5 +1,5 @@
 -- A source is cut into given inlines in one way.
-use Rattle.std.proofs.Common.{◌≡◌, ℕ, zero, suc, ◌≤◌, Bool, true, false, ◌&&◌, ◌||◌, ◌==◌, List, [], ◌∷◌, ◌++◌, replicate, Option, Some, None, if◌then◌else◌, refl, sym, ap, subst, ◌∙◌, arith, append_assoc}
+use Rattle.std.proofs.Common.{◌≡◌, ℕ, zero, suc, ◌≤◌, Bool, true, false, ◌==◌, List, [], ◌∷◌, ◌++◌, replicate, if◌then◌else◌, refl, sym, ap, subst, ◌∙◌, arith, append_assoc}
 use Rattle.std.proofs.lemmas.Bool.{false≢true}
 use Rattle.std.proofs.lemmas.Bool.Decides.{nat_tests}
 use Rattle.std.proofs.lemmas.List.{append_cancel_left, append_cancel_right}
@@ -7,16 +7,16 @@ use Rattle.std.proofs.lemmas.Option.{same_Some}
 use Rattle.cm_text.specs.Rules.{Rules}
 use Rattle.cm_tree.specs.declared.tree.Inline.{Inline}
 use Rattle.cm_tree.specs.declared.tree.Inline.TheVariants.{Text}
-use Rattle.cm_scan.specs.inlines.Atoms.{Atom, AtomRead, Whole, OpenBracket, read, bang_atom, markup_atom, atom_at}
+use Rattle.cm_scan.specs.inlines.Atoms.{AtomRead, Whole, OpenBracket, read, bang_atom, markup_atom, atom_at}
 use Rattle.cm_scan.specs.inlines.Brackets.{Defined, LinkEnd, link_end, end_at}
 use Rattle.cm_scan.specs.inlines.Pairing.{bracket_text, emphasised}
 use Rattle.cm_scan.specs.Words.{after_word}
-use Rattle.cm_scan.specs.inlines.Cuts.{Node, textual, atomic, emphasis, bracketed, Nodes, none, node, link_or_image, inline_of, inlines_of, source_of, sources_of, resolved, IsTextOf, first_atom, encloses, IsCut, AreCut, CutInto}
+use Rattle.cm_scan.specs.inlines.Cuts.{Node, textual, atomic, emphasis, bracketed, Nodes, none, node, link_or_image, inline_of, inlines_of, source_of, sources_of, IsTextOf, first_atom, encloses, IsCut, AreCut}
 use Rattle.cm_scan.specs.laws.CutLaws.{OneCut, PlainTextsAreSources, AtomsAreWritten, IsTail, TailsAreWritten}
 use Rattle.cm_scan.proofs.lemmas.inlines.LeftByEachStep.{end_at-tail}
 use Rattle.cm_scan.proofs.lemmas.cuts.InlineParts.{kind, kind-written, text, content, dest, title, kind-text, text-text, kind-link, content-link, dest-link, title-link, kind-emphasised, content-emphasised}
 use Rattle.cm_scan.proofs.lemmas.cuts.ResolvedTexts.{same-end, taken_from, left_of, plain-text}
-use Rattle.cm_scan.proofs.lemmas.cuts.AtomsTaken.{is_whole, atom-written}
+use Rattle.cm_scan.proofs.lemmas.cuts.AtomsTaken.{is_whole, atom-written, first_byte, other_bytes}
 
 -- what follows the same text is the same
 text-end : (t s r a b : List ℕ) → s ++ a ≡ r ++ b → IsTextOf t s a → IsTextOf t r b → a ≡ b
@@ -66,15 +66,10 @@ bracket-alone rules false rest i a e =
 
 -- Runs
 
-first_byte : List ℕ → ℕ
-first_byte [] = 0
-first_byte (b ∷ bs) = b
-
 encloses-some : (character count : ℕ) → encloses character count ≡ true → 1 ≤ count
 encloses-some character count h = grind (arith, nat_tests, h)
 
 first-of-run : (n b : ℕ) (rest : List ℕ) → 1 ≤ n → first_byte (replicate n b ++ rest) ≡ b
-unfolding first_byte
 first-of-run zero b rest h = absurd (omega (arith, h))
 first-of-run (suc n) b rest h = refl
 
@@ -131,7 +126,7 @@ module _ (rules : Rules) (defined : Defined) where
       → (replicate n c ++ (sources_of ns ++ replicate n c)) ++ a ≡ (replicate m d ++ (sources_of ms ++ replicate m d)) ++ b
       → Cut (emphasis c n ns) a → Cut (emphasis d m ms) b
       → Same (emphasis c n ns) (emphasis d m ms) a b
-  unfolding Same first_byte
+  unfolding Same
   same-emphasis c n ns d m ms a b inside i same w v = (
     ap (λ x. emphasis x n ns) character ∙ ap (λ x. emphasis d x ns) count ∙ ap (λ x. emphasis d m x) content_same.0,
     append_cancel_left (replicate n c) a b (content_same.1 ∙ ap (λ x. x ++ b) (sym marks)),
@@ -166,10 +161,6 @@ module _ (rules : Rules) (defined : Defined) where
   same-image false false d t e u is js h = refl
   same-image true false d t e u is js h = absurd (omega (arith, kind-link true d t is, ap kind h, kind-link false e u js))
   same-image false true d t e u is js h = absurd (omega (arith, kind-link false d t is, ap kind h, kind-link true e u js))
-
-  abbrev tail_of : List ℕ → List ℕ
-  tail_of [] = []
-  tail_of (b ∷ bs) = bs
 
   same-bracketed : (i : Bool) (d t : List ℕ) (ns : Nodes) (s : List ℕ) (j : Bool) (e u : List ℕ) (ms : Nodes) (r a b : List ℕ)
       → SameInside ns ms
@@ -207,7 +198,7 @@ module _ (rules : Rules) (defined : Defined) where
           (whole ∙ ap (λ x. bracket_text x ++ (sources_of ms ++ (93 ∷ (r ++ b)))) (sym image))) w.1 v.1
 
       tails : s ++ a ≡ r ++ b
-      tails = ap tail_of content_same.1
+      tails = ap other_bytes content_same.1
 
       ends : a ≡ b
       ends = ap (λ (x : LinkEnd). x.rest) (same_Some (link_end (d, t) a) (link_end (e, u) b)

@@ -3,17 +3,16 @@ use Rattle.std.proofs.Common.{◌≡◌, ℕ, zero, suc, ◌+◌, ◌-◌, ◌�
 use Rattle.std.proofs.lemmas.Bool.Decides.{nat_tests}
 use Rattle.std.proofs.lemmas.List.{replicate-append-replicate}
 use Rattle.cm_tree.specs.declared.tree.Inline.{Inline}
-use Rattle.cm_tree.specs.declared.tree.Inline.TheVariants.{Text}
 use Rattle.cm_text.specs.Rules.{Rules}
 use Rattle.cm_scan.specs.inlines.Brackets.{Defined}
 use Rattle.cm_scan.specs.inlines.Delimiters.{Run}
-use Rattle.cm_scan.specs.inlines.Pairing.{Item, Characters, Finished, Linked, Delimiters, Opener, bracket_text, text_before, settled_after, settled, used, emphasised, without, paired, pair_once, pairs_within, room, pair_all, emphasis_of}
+use Rattle.cm_scan.specs.inlines.Pairing.{Item, Finished, Delimiters, bracket_text, text_before, settled_after, settled, used, emphasised, without, paired, pair_once, pairs_within, room, pair_all, emphasis_of}
 use Rattle.cm_scan.specs.inlines.Cuts.{Node, textual, emphasis, Nodes, none, node, inline_of, inlines_of, source_of, sources_of, IsTextOf, encloses, IsCut, AreCut, CutInto}
 use Rattle.cm_scan.specs.laws.CutLaws.{is_itself}
 use Rattle.cm_scan.proofs.lemmas.inlines.PairingLemmas.{together, Split, leftmost-splits}
 use Rattle.cm_scan.proofs.lemmas.cuts.ResolvedTexts.{texts-joined, text-itself, run-itself, bracket-itself, nothing-written}
 use Rattle.cm_scan.proofs.lemmas.cuts.AtomsTaken.{may_be_left}
-use Rattle.cm_scan.proofs.lemmas.cuts.PlacedItems.{Placed, characters, finished, linked, waiting, opener, item_of, piece_of, items_of, pieces_of, items-join, pieces-join, IsPlaced, ArePlaced, are-joined, are-front, are-back}
+use Rattle.cm_scan.proofs.lemmas.cuts.PlacedItems.{Placed, characters, finished, linked, waiting, opener, item_of, items_of, pieces_of, items-join, pieces-join, ArePlaced, are-joined, are-front, are-back}
 
 -- Items that stand for placed ones are split where they are.
 record Halves (ps : List Placed) (front : List Item) (run : Run) (back : List Item) : Type 0 where

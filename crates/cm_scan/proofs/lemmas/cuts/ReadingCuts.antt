@@ -10,7 +10,7 @@ use Rattle.cm_scan.specs.inlines.Atoms.{Atom, Plain, Whole, Delimiter, OpenBrack
 use Rattle.cm_scan.specs.inlines.Brackets.{Defined, LinkEnd, end_at, OpenerFound, last_opener, holds_link, made, Bracketed, bracket_is_text, brackets_are_text, source_up_to, closed_by_bracket, close_bracket}
 use Rattle.cm_scan.specs.inlines.Inlines as inlines
 use Rattle.cm_scan.specs.inlines.Inlines.{add_atom, item_step, items_after}
-use Rattle.cm_scan.specs.inlines.Cuts.{bracketed, atomic, Node, Nodes, inline_of, inlines_of, source_of, sources_of, IsTextOf, first_atom, IsCut, AreCut, CutInto}
+use Rattle.cm_scan.specs.inlines.Cuts.{bracketed, atomic, Node, Nodes, inline_of, inlines_of, source_of, sources_of, first_atom, IsCut, AreCut}
 use Rattle.cm_scan.specs.laws.CutLaws.{SourcesAreCut}
 use Rattle.cm_scan.proofs.lemmas.texts.WordsGoOn.{none-some}
 use Rattle.cm_scan.proofs.lemmas.texts.EndsOfTexts.{IsEnd}
