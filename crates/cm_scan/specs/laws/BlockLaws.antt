@@ -173,4 +173,5 @@ abbrev pub ListedEndsLine : Type 0
 ListedEndsLine = (marker : ItemMarker) (line : LineView) → EndsLine (first_content marker line) line
 
 abbrev pub StayingInItemEndsLine : Type 0
-StayingInItemEndsLine = (rules : Rules) (column : ℕ) (bare : Bool) (line : LineView) → EndsIfInside (continuation_in_item rules column bare line) line
+StayingInItemEndsLine = (rules : Rules) (column : ℕ) (bare : Bool) (line : LineView)
+    → EndsIfInside (continuation_in_item rules column bare line) line

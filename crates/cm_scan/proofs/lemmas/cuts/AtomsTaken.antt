@@ -97,7 +97,9 @@ run-rest marker b bs e = ap (λ c. elim c as (λ _. List ℕ) [ true ↦ after_r
 text-run : (marker b : ℕ) (bs : List ℕ) → is_itself marker ≡ true
     → Takes (read (Plain (replicate (run_length marker (b ∷ bs)) marker)) (after_run marker (b ∷ bs))) b bs
 text-run marker b bs its =
-    takes-plain run rest b bs (λ taken is. subst (λ s. IsTextOf run s rest) (piece-is b bs taken rest run is (run-whole marker (b ∷ bs))) (run-itself (run_length marker (b ∷ bs)) marker rest its))
+    takes-plain run rest b bs (λ taken is.
+    subst (λ s. IsTextOf run s rest) (piece-is b bs taken rest run is (run-whole marker (b ∷ bs)))
+    (run-itself (run_length marker (b ∷ bs)) marker rest its))
   where
     run : List ℕ
     run = replicate (run_length marker (b ∷ bs)) marker
@@ -179,7 +181,10 @@ reference-takes b bs h = go (reference (b ∷ bs)) refl
     same = special-reference (b ∷ bs) (sym (ap (λ c. escape (c ∷ bs)) (eqb-true b 38 h) ∙ no-escape bs))
 
     go : (o : Option (List ℕ × ℕ)) → reference (b ∷ bs) ≡ o
-        → Takes (elim o as (λ _. Option AtomRead) [ Some found ↦ read (Plain (encode_utf8_all found.0)) (drop found.1 (b ∷ bs)) | None ↦ None ]) b bs
+        → Takes (elim o as (λ _. Option AtomRead) [
+          | Some found ↦ read (Plain (encode_utf8_all found.0)) (drop found.1 (b ∷ bs))
+          | None ↦ None
+        ]) b bs
     go None f = takes-none b bs (same ∙ f)
     go (Some found) f = takes-plain (encode_utf8_all found.0) (drop found.1 (b ∷ bs)) b bs (λ taken is.
         special-text b taken (drop found.1 (b ∷ bs)) found.0 found.1 (ap (λ t. special (b ∷ t)) (sym is) ∙ same ∙ f)
@@ -190,7 +195,10 @@ unfolding break_atom
 break-takes b bs h = go (after_word (codes "\n") (after_run 32 (b ∷ bs))) refl
   where
     go : (o : Option (List ℕ)) → after_word (codes "\n") (after_run 32 (b ∷ bs)) ≡ o
-        → Takes (elim o as (λ _. Option AtomRead) [ Some rest ↦ read (Whole (if nat_le 2 (run_length 32 (b ∷ bs)) then Hard else Soft)) rest | None ↦ None ]) b bs
+        → Takes (elim o as (λ _. Option AtomRead) [
+          | Some rest ↦ read (Whole (if nat_le 2 (run_length 32 (b ∷ bs)) then Hard else Soft)) rest
+          | None ↦ None
+        ]) b bs
     go None e = takes-none b bs (plain-byte b bs (grind (arith, nat_tests, h)))
     go (Some rest) e = takes-whole (if nat_le 2 (run_length 32 (b ∷ bs)) then Hard else Soft) rest b bs (break-written (b ∷ bs) rest e)
 
@@ -233,7 +241,8 @@ unfolding bang_atom
 bang-takes b bs h = go (after_word (codes "![") (b ∷ bs)) refl
   where
     go : (o : Option (List ℕ))
-        → after_word (codes "![") (b ∷ bs) ≡ o → Takes (elim o as (λ _. Option AtomRead) [ Some rest ↦ read (OpenBracket true) rest | None ↦ None ]) b bs
+        → after_word (codes "![") (b ∷ bs) ≡ o
+        → Takes (elim o as (λ _. Option AtomRead) [ Some rest ↦ read (OpenBracket true) rest | None ↦ None ]) b bs
     go (Some rest) f =
         let whole = word-front (codes "![") (b ∷ bs) rest f in
         takes-this (OpenBracket true) rest (91 ∷ []) b bs (ap other_bytes whole) (ap (λ x. x ∷ 91 ∷ []) (ap first_byte whole))
@@ -326,7 +335,8 @@ alike-markup rules before b bs =
         if b == 33 then bang_atom (b ∷ bs) else if b == 91 then read (OpenBracket false) bs else if b == 93 then read CloseBracket bs
         else run_atom rules before b (b ∷ bs)
 
-    both : (c : Bool) → Alike (if c then tilde_atom rules before (b ∷ bs) else others before) (if c then tilde_atom rules [] (b ∷ bs) else others []) b bs
+    both : (c : Bool)
+        → Alike (if c then tilde_atom rules before (b ∷ bs) else others before) (if c then tilde_atom rules [] (b ∷ bs) else others []) b bs
     both true = alike-tilde rules before b bs
     both false =
         alike-else (b == 33) _ _ _ b bs
@@ -337,7 +347,8 @@ pub whole-anywhere : (rules : Rules) (before : List ℕ) (b : ℕ) (bs : List �
 unfolding atom_at Alike
 whole-anywhere rules before b bs inline rest e = ap (λ (a : AtomRead). Some a) (go (is_markup b) e)
   where
-    go : (v : Bool) → elim v as (λ _. AtomRead) [ true ↦ or_byte b bs (markup_atom rules before b bs) | false ↦ byte_atom b bs ] ≡ record { atom = Whole inline; rest = rest }
+    go : (v : Bool)
+        → elim v as (λ _. AtomRead) [ true ↦ or_byte b bs (markup_atom rules before b bs) | false ↦ byte_atom b bs ] ≡ record { atom = Whole inline; rest = rest }
         → elim v as (λ _. AtomRead) [ true ↦ or_byte b bs (markup_atom rules [] b bs) | false ↦ byte_atom b bs ] ≡ record {
           atom =
               Whole inline;

@@ -105,7 +105,8 @@ pub kind-emphasised : (character count : ℕ) (is : List Inline)
 unfolding kind kind_in
 kind-emphasised character count is = go (character == 126) (count == 2)
   where
-    go : (s t : Bool) → kind_in (out-Inline (if s then Strike is else (if t then Strong is else Emph is))) ≡ (if s then 3 else (if t then 2 else 1))
+    go : (s t : Bool)
+        → kind_in (out-Inline (if s then Strike is else (if t then Strong is else Emph is))) ≡ (if s then 3 else (if t then 2 else 1))
     go true t = ap kind_in (outs-Strike is)
     go false true = ap kind_in (outs-Strong is)
     go false false = ap kind_in (outs-Emph is)

@@ -28,7 +28,12 @@ wider low high l h below above =
 emphasis-length : (c n : ℕ) (ns : Nodes) → length (source_of (emphasis c n ns)) ≡ n + (length (sources_of ns) + n)
 unfolding source_of
 emphasis-length c n ns =
-    omega (arith, length-append (replicate n c) (sources_of ns ++ replicate n c), length-append (sources_of ns) (replicate n c), length-replicate n c)
+    omega (
+      arith,
+      length-append (replicate n c) (sources_of ns ++ replicate n c),
+      length-append (sources_of ns) (replicate n c),
+      length-replicate n c,
+    )
 
 bracketed-length : (image : Bool) (d t : List ℕ) (ns : Nodes) (tail : List ℕ)
     → length (source_of (bracketed image d t ns tail)) ≡ length (bracket_text image) + (length (sources_of ns) + suc (length tail))

@@ -89,7 +89,8 @@ items-left : (n : ℕ) (r : Run) → items_of (left_of n r) ≡ without n r
 unfolding items_of left_of
 items-left n r = go (nat_le r.left n)
   where
-    go : (b : Bool) → items_of (cond b [] (waiting (record r { left = r.left - n }) ∷ [])) ≡ cond b [] (Delimiters (record r { left = r.left - n }) ∷ [])
+    go : (b : Bool)
+        → items_of (cond b [] (waiting (record r { left = r.left - n }) ∷ [])) ≡ cond b [] (Delimiters (record r { left = r.left - n }) ∷ [])
     go true = refl
     go false = refl
 
@@ -352,12 +353,14 @@ module _ (rules : Rules) (defined : Defined) where
           ((before ++ waiting o ∷ inside) ++ waiting c ∷ after)
       whole-is nodes e =
           pieces-join ((before ++ lo) ++ (finished (made nodes) ∷ lc)) after
-          ∙ ap (λ t. t ++ pa) (pieces-join (before ++ lo) (finished (made nodes) ∷ lc) ∙ ap (λ t. t ++ ((marks ++ (sources_of nodes ++ marks)) ++ pieces_of lc)) (pieces-join before lo))
+          ∙ ap (λ t. t ++ pa) (pieces-join (before ++ lo) (finished (made nodes) ∷ lc)
+          ∙ ap (λ t. t ++ ((marks ++ (sources_of nodes ++ marks)) ++ pieces_of lc)) (pieces-join before lo))
           ∙ ap (λ s. ((pb ++ pieces_of lo) ++ ((marks ++ (s ++ marks)) ++ pieces_of lc)) ++ pa) e
           ∙ regrouped pb (pieces_of lo) marks pi (pieces_of lc) pa
           ∙ ap (λ t. (pb ++ (t ++ pi)) ++ ((marks ++ pieces_of lc) ++ pa)) opener-marks
           ∙ ap (λ t. (pb ++ (ro ++ pi)) ++ (t ++ pa)) closer-marks
-          ∙ sym (pieces-join (before ++ waiting o ∷ inside) (waiting c ∷ after) ∙ ap (λ t. t ++ (rc ++ pa)) (pieces-join before (waiting o ∷ inside)))
+          ∙ sym (pieces-join (before ++ waiting o ∷ inside) (waiting c ∷ after)
+          ∙ ap (λ t. t ++ (rc ++ pa)) (pieces-join before (waiting o ∷ inside)))
 
   -- One pair after another.
 

@@ -151,7 +151,8 @@ module _ (rules : Rules) (defined : Defined) where
   bracket-stands : (items : List Item) (so_far rest : List ℕ) → Standing items so_far (93 ∷ rest)
       → Closed so_far rest (record { items = bracket_is_text items; rest = rest })
   bracket-stands items so_far rest s =
-      record { tail = []; is = refl; stands = one-more (characters (93 ∷ []) (93 ∷ [])) items so_far rest s (text-itself (93 ∷ []) rest refl) }
+      let bracket = characters (93 ∷ []) (93 ∷ []) in
+      record { tail = []; is = refl; stands = one-more bracket items so_far rest s (text-itself (93 ∷ []) rest refl) }
 
   -- the opener as text
   opener-stands : (so_far rest : List ℕ) (placed : List Placed) (found : OpenerFound) (n : Nearest placed [] found)
@@ -189,7 +190,8 @@ module _ (rules : Rules) (defined : Defined) where
   link_placed linking true n = if linking then linked n else finished n
 
   link-item : (found : OpenerFound) (end : LinkEnd) (nodes : Nodes) (tail : List ℕ) → inlines_of nodes ≡ emphasis_of found.inside
-      → item_of (link_placed (holds_link found.inside) found.image (link_node found end nodes tail)) ≡ made found.image end.dest end.title found.inside
+      → item_of (link_placed (holds_link found.inside) found.image (link_node found end nodes tail))
+      ≡ made found.image end.dest end.title found.inside
   unfolding link_node link_placed inline_of
   link-item found end nodes tail e = go found.image (holds_link found.inside) refl
     where
@@ -279,7 +281,10 @@ module _ (rules : Rules) (defined : Defined) where
       placed = link_placed linking found.image this
 
       cut : IsCut rules defined this end.rest
-      cut = (ap (λ t. end_at rules defined (sources_of content.nodes) t) (sym tail_is) ∙ ended, subst (AreCut rules defined content.nodes) (ap (λ t. 93 ∷ t) tail_is) content.into.cut)
+      cut = (
+        ap (λ t. end_at rules defined (sources_of content.nodes) t) (sym tail_is) ∙ ended,
+        subst (AreCut rules defined content.nodes) (ap (λ t. 93 ∷ t) tail_is) content.into.cut,
+      )
 
       whole_is : back_of n.before ++ (mark ++ (sources_of content.nodes ++ 93 ∷ tail)) ≡ so_far ++ 93 ∷ tail
       whole_is =
@@ -409,7 +414,8 @@ module _ (rules : Rules) (defined : Defined) where
       next = item_step rules defined before b bs items
 
       go : Step so_far b bs next
-          → ((before rest : List ℕ) (more : List Item) (read : List ℕ) → length rest ≤ n → Standing more read rest → Standing (items_after rules defined zero before rest more) (read ++ rest) [])
+          → ((before rest : List ℕ) (more : List Item) (read : List ℕ) → length rest ≤ n → Standing more read rest
+          → Standing (items_after rules defined zero before rest more) (read ++ rest) [])
           → Standing (items_after rules defined zero before (b ∷ bs) items) (so_far ++ b ∷ bs) []
       go step further =
           let shorter : length next.rest ≤ n = omega (arith, h, ap length step.is, length-append step.taken next.rest) in
@@ -424,7 +430,8 @@ module _ (rules : Rules) (defined : Defined) where
               ap (λ l. items_after rules defined zero before (b ∷ l) items) is
               ∙ reading_goes_on rules defined before b taken next.rest items
               (ap (λ l. (item_step rules defined before b l items).rest) (sym is))
-              ∙ ap (λ l. items_after rules defined zero (reverse taken ++ b ∷ before) next.rest (item_step rules defined before b l items).items) (sym is)
+              ∙ ap (λ l. items_after rules defined zero (reverse taken ++ b ∷ before) next.rest (item_step rules defined before b l items).items)
+              (sym is)
 
   start : (source : List ℕ) → Standing [] [] source
   unfolding items_of back_of

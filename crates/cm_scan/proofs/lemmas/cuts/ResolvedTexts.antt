@@ -126,7 +126,10 @@ unfolding special
 first-some b bs = go (special (b ∷ bs)) (first-one (escape (b ∷ bs)) (reference (b ∷ bs)) (escape-one (b ∷ bs)) (reference-one (b ∷ bs)))
   where
     go : (o : Found) → HasOne o
-        → IsSome (elim o as (λ _. List ℕ × List ℕ) [ Some found ↦ (encode_utf8_all found.0, drop found.1 (b ∷ bs)) | None ↦ (b ∷ [], bs) ]).0
+        → IsSome (elim o as (λ _. List ℕ × List ℕ) [
+          | Some found ↦ (encode_utf8_all found.0, drop found.1 (b ∷ bs))
+          | None ↦ (b ∷ [], bs)
+        ]).0
     go None h = some-byte b []
     go (Some found) h = some-characters found.0 (h found refl)
 
@@ -159,7 +162,8 @@ nothing-written (b ∷ bs) after (zero, e) = absurd (longer (b ∷ bs) after (om
     longer : (s t : List ℕ) → 1 ≤ length s → s ++ t ≡ t → ⊥
     longer s t h e = absurd (omega (arith, h, ap length e, length-append s t))
 nothing-written (b ∷ bs) after (suc n, e) =
-    absurd (some-front (first_resolved b (bs ++ after)).0 (taken_from n (first_resolved b (bs ++ after)).1) (first-some b (bs ++ after)) (ap (λ (p : List ℕ × List ℕ). p.0) e))
+    let first = first_resolved b (bs ++ after) in
+    absurd (some-front first.0 (taken_from n first.1) (first-some b (bs ++ after)) (ap (λ (p : List ℕ × List ℕ). p.0) e))
 
 -- one text after another
 
@@ -240,7 +244,10 @@ first-shorter : (b : ℕ) (bs : List ℕ) → length (first_resolved b bs).1 ≤
 first-shorter b bs = go (special (b ∷ bs)) (special-ends (b ∷ bs))
   where
     go : (o : Found) → EndsInAscii (b ∷ bs) o
-        → length (elim o as (λ _. List ℕ × List ℕ) [ Some found ↦ (encode_utf8_all found.0, drop found.1 (b ∷ bs)) | None ↦ (b ∷ [], bs) ]).1 ≤ length bs
+        → length (elim o as (λ _. List ℕ × List ℕ) [
+          | Some found ↦ (encode_utf8_all found.0, drop found.1 (b ∷ bs))
+          | None ↦ (b ∷ [], bs)
+        ]).1 ≤ length bs
     go None ends = omega arith
     go (Some found) ends = omega (arith, ends.0, length-drop found.1 (b ∷ bs))
 

@@ -233,7 +233,9 @@ angle-written rules text found e = go (autolink text) (raw_html rules text) refl
     go None html f g e = tag html g e
     go (Some link) html f g e = by (is_followed rules link.destination) e
       where
-        by : (t : Bool) → elim (given t link) as (λ _. Option Angled) [ Some link ↦ Some (Addressed link) | None ↦ tagged text html ] ≡ Some found → Written (inline_in found) text (left_after found)
+        by : (t : Bool)
+            → elim (given t link) as (λ _. Option Angled) [ Some link ↦ Some (Addressed link) | None ↦ tagged text html ] ≡ Some found
+            → Written (inline_in found) text (left_after found)
         by true e = subst (λ f. Written (inline_in f) text (left_after f)) (same_Some (Addressed link) found e) (link-written text link f)
         by false e = tag html g e
 

@@ -225,11 +225,19 @@ pub record Tailed (rest text : List ℕ) : Type 0 where
 
 parenthesised : (rest text : List ℕ) → Between 40 41 rest text → Tailed rest text
 parenthesised rest text w =
-    record { tail = 40 ∷ (w.inside ++ 41 ∷ []); is = w.is ∙ ap (λ t. 40 ∷ t) (sym (append_assoc w.inside (41 ∷ []) rest)); law = inr (inl (w.inside, refl)) }
+    record {
+      tail = 40 ∷ (w.inside ++ 41 ∷ []);
+      is = w.is ∙ ap (λ t. 40 ∷ t) (sym (append_assoc w.inside (41 ∷ []) rest));
+      law = inr (inl (w.inside, refl));
+    }
 
 in-brackets : (rest text : List ℕ) → Between 91 93 rest text → Tailed rest text
 in-brackets rest text w =
-    record { tail = 91 ∷ (w.inside ++ 93 ∷ []); is = w.is ∙ ap (λ t. 91 ∷ t) (sym (append_assoc w.inside (93 ∷ []) rest)); law = inr (inr (w.inside, refl)) }
+    record {
+      tail = 91 ∷ (w.inside ++ 93 ∷ []);
+      is = w.is ∙ ap (λ t. 91 ∷ t) (sym (append_assoc w.inside (93 ∷ []) rest));
+      law = inr (inr (w.inside, refl));
+    }
 
 left-as : (text a b : List ℕ) → a ≡ b → Tailed a text → Tailed b text
 left-as text a b e w = subst (λ t. Tailed t text) e w
