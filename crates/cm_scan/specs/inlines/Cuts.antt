@@ -66,7 +66,7 @@ resolved (suc n) (b ∷ bs) = let first = first_resolved b bs in let more = reso
 abbrev pub IsTextOf : (text source after : List ℕ) → Type 0
 IsTextOf text source after = (n : ℕ) × (resolved n (source ++ after) ≡ (text, after))
 
--- The atom at the start of a source, if it isn't a delimiter run: only for these does it matter what comes before.
+-- The atom at the start of a source, unless it is a delimiter run: what comes before matters only for those.
 abbrev pub first_atom : Rules → List ℕ → Option AtomRead
 first_atom rules [] = None
 first_atom rules (b ∷ bs) = Some (atom_at rules [] b bs)

@@ -40,7 +40,7 @@ abbrev pub PlacesAreWithin : Type 0
 PlacesAreWithin = (nodes : Nodes)
     → All (λ (place : Place). (place.start ≤ place.end) × (place.end ≤ length (sources_of nodes))) (places_of nodes)
 
--- a place is inside another, or after it
+-- a place is inside another, or after it, and doesn't start before it
 abbrev pub IsInsideOrAfter : Place → Place → Type 0
 IsInsideOrAfter other place = (other.start ≤ place.start) × ((place.end ≤ other.end) ⊎ (other.end ≤ place.start))
 
@@ -48,6 +48,6 @@ abbrev pub AreNested : List Place → Type 0
 AreNested [] = ⊤
 AreNested (place ∷ places) = All (IsInsideOrAfter place) places × AreNested places
 
--- Each place is inside the places before it or after them, so no two overlap otherwise.
+-- Each place is inside any earlier one, or after it: no two overlap otherwise.
 abbrev pub PlacesAreNested : Type 0
 PlacesAreNested = (nodes : Nodes) → AreNested (places_of nodes)
