@@ -47,8 +47,8 @@ pub fn items_before_lists()
     ensures alone { ItemByItself }
 {}
 
-/// What is left of a line in block quotes and items is an end of the line, indentation aside, even where a tab
-/// is cut.
+/// What is left of a line in block quotes and items is an end of the line, indentation aside, even where a
+/// tab is cut.
 pub fn contents_end_lines()
     ensures text { ContentEndsText }
     ensures quote { QuotedEndsLine }

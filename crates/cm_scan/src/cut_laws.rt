@@ -6,9 +6,9 @@ ghost use Rattle.cm_scan.specs.laws.CutLaws.{OneCut, PlainTextsAreSources, Atoms
 ghost use Rattle.cm_scan.specs.laws.CutLaws.{SourcesAreCut, TailsAreWritten};
 ghost use Rattle.cm_scan.specs.inlines.Places.{PlacesAreNested, PlacesAreSources, PlacesAreWithin};
 
-/// The source of each leaf is cut into its inlines, in exactly one way. Each inline has a piece of the source,
-/// which is read as that inline in its place; those inside it have pieces of that piece; and nothing is left
-/// over.
+/// The source of each leaf is cut into its inlines, in exactly one way. Each inline has a piece of the
+/// source, which is read as that inline in its place; those inside it have pieces of that piece; and nothing
+/// is left over.
 pub fn sources_are_cut()
     ensures cut { SourcesAreCut }
     ensures one { OneCut }
@@ -32,8 +32,8 @@ pub fn cut_examples()
     ensures place { PlaceExamples }
 {}
 
-/// The places of inlines, an inline before those inside it, are nested: each is inside any earlier one, or after
-/// it. The bytes at each place are the source of its inline.
+/// The places of inlines, an inline before those inside it, are nested: each is inside any earlier one, or
+/// after it. The bytes at each place are the source of its inline.
 pub fn places_are_nested()
     ensures sources { PlacesAreSources }
     ensures within { PlacesAreWithin }

@@ -49,14 +49,14 @@ unfoldable mutual
   sources_of none = []
   sources_of (node n ns) = source_of n ++ sources_of ns
 
--- The first of a text, and what is left: an escape or a reference is resolved, and any other byte is itself.
+-- what the escape or the reference at the start of a text is resolved to, or else its first byte; and what is left
 abbrev pub first_resolved : ℕ → List ℕ → List ℕ × List ℕ
 first_resolved b bs = elim (special (b ∷ bs)) [
   | Some found ↦ (encode_utf8_all found.0, drop found.1 (b ∷ bs))
   | None ↦ (b ∷ [], bs)
 ]
 
--- the same so many times, one after another
+-- so many of these one after another, and what is left
 unfoldable pub resolved : ℕ → List ℕ → List ℕ × List ℕ
 resolved zero source = ([], source)
 resolved (suc n) [] = ([], [])
