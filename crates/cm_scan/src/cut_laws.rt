@@ -3,7 +3,7 @@
 ghost use Rattle.cm_scan.specs.laws.CutExamples.{CutEmphasisExamples, CutLinkExamples};
 ghost use Rattle.cm_scan.specs.laws.CutExamples.{CutAtomExamples, CutTextExamples, PlaceExamples};
 ghost use Rattle.cm_scan.specs.laws.CutLaws.{OneCut, PlainTextsAreSources, AtomsAreWritten};
-ghost use Rattle.cm_scan.specs.laws.CutLaws.{SourcesAreCut, TailsAreWritten};
+ghost use Rattle.cm_scan.specs.laws.CutLaws.{PlacesPartCharacters, SourcesAreCut, TailsAreWritten};
 ghost use Rattle.cm_scan.specs.inlines.Places.{PlacesAreNested, PlacesAreSources, PlacesAreWithin};
 
 /// The source of each leaf is cut into its inlines, in exactly one way. Each inline has a piece of the
@@ -33,9 +33,10 @@ pub fn cut_examples()
 {}
 
 /// The places of inlines, an inline before those inside it, are nested: each is inside any earlier one, or
-/// after it. The bytes at each place are the source of its inline.
+/// after it. The bytes at each place are the source of its inline, and they are whole characters.
 pub fn places_are_nested()
     ensures sources { PlacesAreSources }
     ensures within { PlacesAreWithin }
     ensures nested { PlacesAreNested }
+    ensures characters { PlacesPartCharacters }
 {}

@@ -7,3 +7,4 @@ pub mod PlacedItems
 pub mod PairingCuts
 pub mod ReadingCuts
 pub mod NestedPlaces
+pub mod CharacterPlaces

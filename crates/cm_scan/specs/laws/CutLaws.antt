@@ -1,7 +1,7 @@
 -- Laws of how the source of a leaf is cut into its inlines.
 use Rattle.std.specs.Prelude.{◌≡◌, ℕ, suc, ◌≤◌, Bool, true, not, ◌&&◌, ◌==◌, List, [], ◌∷◌, ◌++◌, replicate, codes, ◌⊎◌}
-use Rattle.std.specs.List.{list_all}
-use Rattle.std.specs.Str.{byte}
+use Rattle.std.specs.List.{All, list_all}
+use Rattle.std.specs.Str.{byte, IsUtf8, IsCharBoundary}
 use Rattle.cm_text.specs.Rules.{Rules}
 use Rattle.cm_tree.specs.declared.tree.Inline.{Inline, Inline-F, out-Inline}
 use Rattle.cm_tree.specs.declared.tree.Inline.TheOpen as inline
@@ -10,6 +10,7 @@ use Rattle.cm_scan.specs.spans.CodeSpans.{one_line, stripped}
 use Rattle.cm_scan.specs.inlines.Brackets.{Defined}
 use Rattle.cm_scan.specs.inlines.Inlines as inlines
 use Rattle.cm_scan.specs.inlines.Cuts.{Nodes, textual, atomic, bracketed, IsCut, CutInto}
+use Rattle.cm_scan.specs.inlines.Places.{Place, places_of}
 
 -- The source of each leaf is cut into the inlines that are read from it.
 abbrev pub SourcesAreCut : Type 0
@@ -35,15 +36,15 @@ abbrev pub IsBetween : (front back text : List ℕ) → Type 0
 IsBetween front back text = (inside : List ℕ) × (text ≡ front ++ (inside ++ back))
 
 -- How an atom is written: a code span as its content between two backtick strings of equal length; an autolink as its text between `<`
--- and `>`; raw HTML as it is; a soft line break as a line feed after at most one space; and a hard line break as a line feed after two
--- spaces or more, or after a backslash.
+-- and `>`; raw HTML as it is, from `<` to `>`; a soft line break as a line feed after at most one space; and a hard line break as a line
+-- feed after two spaces or more, or after a backslash.
 abbrev pub IsWritten : Inline-F Inline → (source : List ℕ) → Type 0
 IsWritten (inline.Code text) source =
     (n : ℕ) × (content : List ℕ) × (source ≡ replicate (suc n) (byte "`") ++ (content ++ replicate (suc n) (byte "`")))
     × (text ≡ stripped (one_line content))
 IsWritten (inline.Link dest title content) source =
     (text : List ℕ) × (source ≡ codes "<" ++ (text ++ codes ">")) × (title ≡ []) × (content ≡ Text text ∷ [])
-IsWritten (inline.Html text) source = source ≡ text
+IsWritten (inline.Html text) source = (source ≡ text) × IsBetween (codes "<") (codes ">") source
 IsWritten inline.Soft source = (n : ℕ) × (n ≤ 1) × (source ≡ replicate n (byte " ") ++ codes "\n")
 IsWritten inline.Hard source = ((n : ℕ) × (2 ≤ n) × (source ≡ replicate n (byte " ") ++ codes "\n")) ⊎ (source ≡ codes "\\\n")
 IsWritten _ source = ⊥
@@ -59,3 +60,9 @@ IsTail tail = (tail ≡ []) ⊎ IsBetween (codes "(") (codes ")") tail ⊎ IsBet
 abbrev pub TailsAreWritten : Type 0
 TailsAreWritten = (rules : Rules) (defined : Defined) (image : Bool) (dest title : List ℕ) (inside : Nodes) (tail after : List ℕ)
     → IsCut rules defined (bracketed image dest title inside tail) after → IsTail tail
+
+-- In a source of whole characters, each place starts and ends between characters.
+abbrev pub PlacesPartCharacters : Type 0
+PlacesPartCharacters = (rules : Rules) (defined : Defined) (source : List ℕ) (nodes : Nodes)
+    → CutInto rules defined nodes (inlines.inlines_of rules defined source) source [] → IsUtf8 source
+    → All (λ (place : Place). IsCharBoundary source place.start × IsCharBoundary source place.end) (places_of nodes)

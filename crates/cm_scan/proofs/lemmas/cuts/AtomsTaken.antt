@@ -27,7 +27,7 @@ use Rattle.cm_scan.proofs.lemmas.texts.WordsGoOn.{none-some}
 use Rattle.cm_scan.proofs.lemmas.texts.EndsOfTexts.{IsEnd}
 use Rattle.cm_scan.proofs.lemmas.spans.RawHtmlGoesOn.{word-front}
 use Rattle.cm_scan.proofs.lemmas.inlines.LeftByEachStep.{atom-left}
-use Rattle.cm_scan.proofs.lemmas.cuts.WrittenSpans.{Written, run-whole, code-written, inline_in, left_after, angle-written, break-written, backslash-written}
+use Rattle.cm_scan.proofs.lemmas.cuts.WrittenSpans.{first_byte, Written, run-whole, code-written, inline_in, left_after, angle-written, break-written, backslash-written}
 use Rattle.cm_scan.proofs.lemmas.cuts.ResolvedTexts.{byte-itself, plain-byte, run-itself, special-text}
 
 -- what may be left of a delimiter run
@@ -124,14 +124,20 @@ angle-takes : (rules : Rules) (b : ℕ) (bs : List ℕ) → (b == 60) ≡ true �
 unfolding angle_atom inline_in left_after
 angle-takes rules b bs h = go (at_angle rules (b ∷ bs)) refl
   where
+    written : (found : Angled) → at_angle rules (b ∷ bs) ≡ Some found → Written (inline_in found) (b ∷ bs) (left_after found)
+    written found e =
+        let is = eqb-true b 60 h in
+        subst (λ c. Written (inline_in found) (c ∷ bs) (left_after found)) (sym is)
+        (angle-written rules bs found (ap (λ c. at_angle rules (c ∷ bs)) (sym is) ∙ e))
+
     go : (o : Option Angled) → at_angle rules (b ∷ bs) ≡ o → Takes (elim o as (λ _. Option AtomRead) [
       | Some (Addressed link) ↦ read (Whole (link_of link)) link.rest
       | Some (Tagged tag) ↦ read (Whole (Html tag.text)) tag.rest
       | None ↦ None
     ]) b bs
     go None e = takes-none b bs (plain-is b 60 bs h refl)
-    go (Some (Addressed link)) e = takes-whole (link_of link) link.rest b bs (angle-written rules (b ∷ bs) (Addressed link) e)
-    go (Some (Tagged tag)) e = takes-whole (Html tag.text) tag.rest b bs (angle-written rules (b ∷ bs) (Tagged tag) e)
+    go (Some (Addressed link)) e = takes-whole (link_of link) link.rest b bs (written (Addressed link) e)
+    go (Some (Tagged tag)) e = takes-whole (Html tag.text) tag.rest b bs (written (Tagged tag) e)
 
 -- an escape stands for one byte
 escaped-itself : (text : List ℕ) (escaped : List ℕ × ℕ) → escape text ≡ Some escaped → encode_utf8_all escaped.0 ≡ escaped.0
@@ -227,10 +233,6 @@ tilde-takes rules before b bs h = go rules.strike (run_length 126 (b ∷ bs) == 
     go true true e = run-takes rules before 126 b bs h e
     go true false e = text-run 126 b bs refl
     go false w e = text-run 126 b bs refl
-
-abbrev pub first_byte : List ℕ → ℕ
-first_byte [] = 0
-first_byte (b ∷ bs) = b
 
 abbrev pub other_bytes : List ℕ → List ℕ
 other_bytes [] = []
@@ -348,7 +350,11 @@ unfolding atom_at Alike
 whole-anywhere rules before b bs inline rest e = ap (λ (a : AtomRead). Some a) (go (is_markup b) e)
   where
     go : (v : Bool)
-        → elim v as (λ _. AtomRead) [ true ↦ or_byte b bs (markup_atom rules before b bs) | false ↦ byte_atom b bs ] ≡ record { atom = Whole inline; rest = rest }
+        → elim v as (λ _. AtomRead) [ true ↦ or_byte b bs (markup_atom rules before b bs) | false ↦ byte_atom b bs ] ≡ record {
+          atom =
+              Whole inline;
+          rest = rest;
+        }
         → elim v as (λ _. AtomRead) [ true ↦ or_byte b bs (markup_atom rules [] b bs) | false ↦ byte_atom b bs ] ≡ record {
           atom =
               Whole inline;

@@ -12,7 +12,7 @@ each-weaker : (P Q : Place → Type 0) → ((p : Place) → P p → Q p) → (ps
 each-weaker P Q h [] all = tt
 each-weaker P Q h (p ∷ ps) all = (h p all.0, each-weaker P Q h ps all.1)
 
-each-append : (P : Place → Type 0) (ps qs : List Place) → Each P ps → Each P qs → Each P (ps ++ qs)
+pub each-append : (P : Place → Type 0) (ps qs : List Place) → Each P ps → Each P qs → Each P (ps ++ qs)
 each-append P [] qs v w = w
 each-append P (p ∷ ps) qs v w = (v.0, each-append P ps qs v.1 w)
 
@@ -171,13 +171,14 @@ given-as : (text other : List ℕ) (start from : ℕ) (ns : Nodes) → other ≡
 given-as text other start from ns e f all =
     subst (λ t. Each (IsSource t) (places_from start ns)) e (subst (λ k. Each (IsSource other) (places_from k ns)) f all)
 
-within : (front mark inside end back : List ℕ) → (front ++ mark) ++ (inside ++ (end ++ back)) ≡ front ++ ((mark ++ (inside ++ end)) ++ back)
+pub within : (front mark inside end back : List ℕ)
+    → (front ++ mark) ++ (inside ++ (end ++ back)) ≡ front ++ ((mark ++ (inside ++ end)) ++ back)
 within front mark inside end back = simp append_assoc refl
 
 together : (front s more back : List ℕ) → front ++ (s ++ (more ++ back)) ≡ front ++ ((s ++ more) ++ back)
 together front s more back = simp append_assoc refl
 
-beyond : (front s more back : List ℕ) → (front ++ s) ++ (more ++ back) ≡ front ++ ((s ++ more) ++ back)
+pub beyond : (front s more back : List ℕ) → (front ++ s) ++ (more ++ back) ≡ front ++ ((s ++ more) ++ back)
 beyond front s more back = simp append_assoc refl
 
 mutual

@@ -16,7 +16,8 @@ use Rattle.cm_scan.specs.laws.CutLaws.{OneCut, PlainTextsAreSources, AtomsAreWri
 use Rattle.cm_scan.proofs.lemmas.inlines.LeftByEachStep.{end_at-tail}
 use Rattle.cm_scan.proofs.lemmas.cuts.InlineParts.{kind, kind-written, text, content, dest, title, kind-text, text-text, kind-link, content-link, dest-link, title-link, kind-emphasised, content-emphasised}
 use Rattle.cm_scan.proofs.lemmas.cuts.ResolvedTexts.{same-end, taken_from, left_of, plain-text}
-use Rattle.cm_scan.proofs.lemmas.cuts.AtomsTaken.{is_whole, atom-written, first_byte, other_bytes}
+use Rattle.cm_scan.proofs.lemmas.cuts.AtomsTaken.{is_whole, atom-written, other_bytes}
+use Rattle.cm_scan.proofs.lemmas.cuts.WrittenSpans.{first_byte}
 
 -- what follows the same text is the same
 text-end : (t s r a b : List ℕ) → s ++ a ≡ r ++ b → IsTextOf t s a → IsTextOf t r b → a ≡ b

@@ -12,7 +12,7 @@ use Rattle.cm_scan.specs.laws.CutLaws.{is_itself}
 use Rattle.cm_scan.proofs.lemmas.inlines.PairingLemmas.{together, Split, leftmost-splits}
 use Rattle.cm_scan.proofs.lemmas.cuts.ResolvedTexts.{texts-joined, text-itself, run-itself, bracket-itself, nothing-written}
 use Rattle.cm_scan.proofs.lemmas.cuts.AtomsTaken.{may_be_left}
-use Rattle.cm_scan.proofs.lemmas.cuts.PlacedItems.{Placed, characters, finished, linked, waiting, opener, item_of, items_of, pieces_of, items-join, pieces-join, ArePlaced, are-joined, are-front, are-back}
+use Rattle.cm_scan.proofs.lemmas.cuts.PlacedItems.{is_text, starts_with_text, ApartInside, AreApart, Placed, characters, finished, linked, waiting, opener, item_of, items_of, pieces_of, items-join, pieces-join, IsPlaced, ArePlaced, are-joined, are-front, are-back}
 
 -- Items that stand for placed ones are split where they are.
 record Halves (ps : List Placed) (front : List Item) (run : Run) (back : List Item) : Type 0 where
@@ -90,7 +90,10 @@ unfolding items_of left_of
 items-left n r = go (nat_le r.left n)
   where
     go : (b : Bool)
-        → items_of (cond b [] (waiting (record r { left = r.left - n }) ∷ [])) ≡ cond b [] (Delimiters (record r { left = r.left - n }) ∷ [])
+        → items_of (cond b [] (waiting (record r {
+          left =
+              r.left - n;
+        }) ∷ [])) ≡ cond b [] (Delimiters (record r { left = r.left - n }) ∷ [])
     go true = refl
     go false = refl
 
@@ -176,6 +179,7 @@ module _ (rules : Rules) (defined : Defined) where
   pub record Cuts (inlines : List Inline) (source after : List ℕ) : Type 0 where
     pub nodes : Nodes
     pub into : CutInto rules defined nodes inlines source after
+    pub apart : AreApart nodes
 
   abbrev Are : List Placed → (after : List ℕ) → Type 0
   Are = ArePlaced rules defined
@@ -183,29 +187,41 @@ module _ (rules : Rules) (defined : Defined) where
   -- settling
 
   cut-node : (n : Node) (inlines : List Inline) (source after : List ℕ) → IsCut rules defined n (source ++ after)
-      → Cuts inlines source after → Cuts (inline_of n ∷ inlines) (source_of n ++ source) after
+      → (c : Cuts inlines source after) → (is_text n && starts_with_text c.nodes) ≡ false → ApartInside n
+      → Cuts (inline_of n ∷ inlines) (source_of n ++ source) after
   unfolding inlines_of sources_of
-  cut-node n inlines source after w c = record {
+  cut-node n inlines source after w c apart inside = record {
     nodes = node n c.nodes;
     into = record {
       inlines_are = ap (λ l. inline_of n ∷ l) c.into.inlines_are;
       whole = ap (λ t. source_of n ++ t) c.into.whole;
       cut = (subst (λ t. IsCut rules defined n (t ++ after)) (sym c.into.whole) w, c.into.cut);
     };
+    apart = (apart, inside, c.apart);
   }
 
-  cut-text : (u s : List ℕ) (inlines : List Inline) (source after : List ℕ) → IsTextOf u s (source ++ after) → Cuts inlines source after
-      → Cuts (text_before u inlines) (s ++ source) after
+  cut-text : (u s : List ℕ) (inlines : List Inline) (source after : List ℕ) → IsTextOf u s (source ++ after)
+      → (c : Cuts inlines source after) → starts_with_text c.nodes ≡ false → Cuts (text_before u inlines) (s ++ source) after
   unfolding inline_of source_of
-  cut-text [] s inlines source after t c = subst (λ l. Cuts inlines (l ++ source) after) (sym (nothing-written s (source ++ after) t)) c
-  cut-text (b ∷ bs) s inlines source after t c = cut-node (textual (b ∷ bs) s) inlines source after t c
+  cut-text [] s inlines source after t c apart =
+      subst (λ l. Cuts inlines (l ++ source) after) (sym (nothing-written s (source ++ after) t)) c
+  cut-text (b ∷ bs) s inlines source after t c apart = cut-node (textual (b ∷ bs) s) inlines source after t c apart tt
 
   cut-nothing : (after : List ℕ) → Cuts [] [] after
   unfolding inlines_of sources_of
-  cut-nothing after = record { nodes = none; into = record { inlines_are = refl; whole = refl; cut = tt } }
+  cut-nothing after = record { nodes = none; into = record { inlines_are = refl; whole = refl; cut = tt }; apart = tt }
 
   with-source : (inlines : List Inline) (s t after : List ℕ) → s ≡ t → Cuts inlines s after → Cuts inlines t after
   with-source inlines s t after e c = subst (λ l. Cuts inlines l after) e c
+
+  -- a text before what isn't text
+  cut-both : (u s : List ℕ) (n : Node) (inlines : List Inline) (source after : List ℕ) → IsTextOf u s ((source_of n ++ source) ++ after)
+      → IsPlaced rules defined (finished n) (source ++ after) → Cuts inlines source after
+      → Cuts (text_before u (inline_of n ∷ inlines)) (s ++ (source_of n ++ source)) after
+  unfolding cut-node
+  cut-both u s n inlines source after t w c =
+      cut-text u s (inline_of n ∷ inlines) (source_of n ++ source) after t
+      (cut-node n inlines source after w.0 c (ap (λ v. v && starts_with_text c.nodes) w.1) w.2) w.1
 
   -- a text before a piece with text
   joined : (u s v r ps after : List ℕ) → IsTextOf u s ((r ++ ps) ++ after) → IsTextOf v r (ps ++ after)
@@ -214,15 +230,13 @@ module _ (rules : Rules) (defined : Defined) where
 
   cut-settled : (u s : List ℕ) (ps : List Placed) (after : List ℕ) → IsTextOf u s (pieces_of ps ++ after) → Are ps after
       → Cuts (settled_after u (items_of ps)) (s ++ pieces_of ps) after
-  unfolding settled_after items_of pieces_of
-  cut-settled u s [] after t w = cut-text u s [] [] after t (cut-nothing after)
+  unfolding settled_after items_of pieces_of cut-nothing
+  cut-settled u s [] after t w = cut-text u s [] [] after t (cut-nothing after) refl
   cut-settled u s (characters v r ∷ ps) after t w =
       with-source _ _ _ after (append_assoc s r (pieces_of ps))
       (cut-settled (u ++ v) (s ++ r) ps after (joined u s v r (pieces_of ps) after t w.0) w.1)
-  cut-settled u s (finished n ∷ ps) after t w =
-      cut-text u s _ _ after t (cut-node n _ _ after w.0 (cut-settled [] [] ps after (text-itself [] _ refl) w.1))
-  cut-settled u s (linked n ∷ ps) after t w =
-      cut-text u s _ _ after t (cut-node n _ _ after w.0 (cut-settled [] [] ps after (text-itself [] _ refl) w.1))
+  cut-settled u s (finished n ∷ ps) after t w = cut-both u s n _ _ after t w.0 (cut-settled [] [] ps after (text-itself [] _ refl) w.1)
+  cut-settled u s (linked n ∷ ps) after t w = cut-both u s n _ _ after t w.0 (cut-settled [] [] ps after (text-itself [] _ refl) w.1)
   cut-settled u s (waiting run ∷ ps) after t w =
       let left = replicate run.left run.character in
       with-source _ _ _ after (append_assoc s left (pieces_of ps))
@@ -275,8 +289,11 @@ module _ (rules : Rules) (defined : Defined) where
             (are-joined rules defined (before ++ lo) (finished (made inner.nodes) ∷ lc) (pa ++ x)
             (are-joined rules defined before lo ((source_of (made inner.nodes) ++ pieces_of lc) ++ (pa ++ x))
             (subst (Are before) (front-context inner.nodes inner.into.whole) front)
-            (are-left n o _ middle.0 (ap (λ k. encloses k n) same ∙ enclosing)))
-            ((enclosing, subst (AreCut rules defined inner.nodes) inner-context inner.into.cut), are-left n c (pa ++ x) back.0 enclosing))
+            (are-left n o _ middle.0 (ap (λ k. encloses k n) same ∙ enclosing))) (
+              ((enclosing, subst (AreCut rules defined inner.nodes) inner-context inner.into.cut), refl, inner.apart),
+              are-left n c
+                  (pa ++ x) back.0 enclosing,
+            ))
             (back.1);
       }
     where

@@ -1,12 +1,33 @@
 -- The items of a leaf while it is read, each with its source.
-use Rattle.std.proofs.Common.{◌≡◌, ℕ, Bool, true, List, [], ◌∷◌, ◌++◌, replicate, refl, sym, ap, subst, ◌∙◌, append_assoc}
+use Rattle.std.proofs.Common.{◌≡◌, ℕ, Bool, true, false, ◌&&◌, List, [], ◌∷◌, ◌++◌, replicate, refl, sym, ap, subst, ◌∙◌, append_assoc}
 use Rattle.std.specs.Prelude.{⊤}
 use Rattle.cm_text.specs.Rules.{Rules}
 use Rattle.cm_scan.specs.inlines.Brackets.{Defined}
 use Rattle.cm_scan.specs.inlines.Delimiters.{Run}
 use Rattle.cm_scan.specs.inlines.Pairing.{Item, Characters, Finished, Linked, Delimiters, Opener, bracket_text}
-use Rattle.cm_scan.specs.inlines.Cuts.{Node, inline_of, source_of, IsTextOf, IsCut}
+use Rattle.cm_scan.specs.inlines.Cuts.{Node, textual, atomic, emphasis, bracketed, Nodes, none, node, inline_of, source_of, IsTextOf, IsCut}
 use Rattle.cm_scan.proofs.lemmas.cuts.AtomsTaken.{may_be_left}
+
+-- No two texts are next to each other.
+
+abbrev pub is_text : Node → Bool
+is_text (textual text source) = true
+is_text _ = false
+
+abbrev pub starts_with_text : Nodes → Bool
+starts_with_text none = false
+starts_with_text (node n ns) = is_text n
+
+abbrev mutual
+  pub ApartInside : Node → Type 0
+  ApartInside (textual text source) = ⊤
+  ApartInside (atomic inline source) = ⊤
+  ApartInside (emphasis character count inside) = AreApart inside
+  ApartInside (bracketed image dest title inside tail) = AreApart inside
+
+  pub AreApart : Nodes → Type 0
+  AreApart none = ⊤
+  AreApart (node n ns) = ((is_text n && starts_with_text ns) ≡ false) × ApartInside n × AreApart ns
 
 -- an item with its source
 pub data Placed : Type 0 where
@@ -55,8 +76,8 @@ module _ (rules : Rules) (defined : Defined) where
   -- The source of an item, where this comes after it, is read as the item.
   abbrev pub IsPlaced : Placed → (after : List ℕ) → Type 0
   IsPlaced (characters text source) after = IsTextOf text source after
-  IsPlaced (finished n) after = IsCut rules defined n after
-  IsPlaced (linked n) after = IsCut rules defined n after
+  IsPlaced (finished n) after = IsCut rules defined n after × (is_text n ≡ false) × ApartInside n
+  IsPlaced (linked n) after = IsCut rules defined n after × (is_text n ≡ false) × ApartInside n
   IsPlaced (waiting run) after = may_be_left run.character run.left ≡ true
   IsPlaced (opener image seen) after = seen ≡ after
 

@@ -213,7 +213,7 @@ module _ (rules : Rules) (defined : Defined) where
   link-piece true true n = refl
   link-piece false true n = refl
 
-  link-cut : (linking image : Bool) (n : Node) (rest : List ℕ) → IsCut rules defined n rest
+  link-cut : (linking image : Bool) (n : Node) (rest : List ℕ) → IsPlaced rules defined (linked n) rest
       → IsPlaced rules defined (link_placed linking image n) rest
   unfolding link_placed
   link-cut linking false n rest w = w
@@ -234,7 +234,7 @@ module _ (rules : Rules) (defined : Defined) where
           items_are = ap (λ i. i ∷ items_of n.before) (link-item found end content.nodes tail inside_is)
               ∙ ap (λ l. made found.image end.dest end.title found.inside ∷ l) n.before_are;
           whole = ap (λ t. back_of n.before ++ t) (link-piece linking found.image this) ∙ whole_is;
-          are = (link-cut linking found.image this end.rest cut, subst (BackPlaced n.before) seen halves.1.1);
+          are = (link-cut linking found.image this end.rest (cut, refl, content.apart), subst (BackPlaced n.before) seen halves.1.1);
         };
       }
     where
@@ -370,7 +370,7 @@ module _ (rules : Rules) (defined : Defined) where
             is = k.is;
             stands = one-more (finished (atomic inline (b ∷ k.taken))) items so_far rest
                 (seen-as items so_far (b ∷ bs) (b ∷ k.taken ++ rest) whole s)
-                (ap (first_atom rules) (sym whole) ∙ whole-anywhere rules before b bs inline rest e);
+                (ap (first_atom rules) (sym whole) ∙ whole-anywhere rules before b bs inline rest e, refl, tt);
           }
       go (Delimiter run) rest e k =
           let whole = ap (λ l. b ∷ l) k.is ∙ ap (λ l. l ++ rest) k.law.0 in
@@ -430,14 +430,14 @@ module _ (rules : Rules) (defined : Defined) where
               ap (λ l. items_after rules defined zero before (b ∷ l) items) is
               ∙ reading_goes_on rules defined before b taken next.rest items
               (ap (λ l. (item_step rules defined before b l items).rest) (sym is))
-              ∙ ap (λ l. items_after rules defined zero (reverse taken ++ b ∷ before) next.rest (item_step rules defined before b l items).items)
-              (sym is)
+              ∙ ap (λ l. items_after rules defined zero (reverse taken ++ b ∷ before) next.rest
+              (item_step rules defined before b l items).items) (sym is)
 
   start : (source : List ℕ) → Standing [] [] source
   unfolding items_of back_of
   start source = record { placed = []; items_are = refl; whole = refl; are = tt }
 
-  source-cut : (source : List ℕ) → Cuts rules defined (inlines.inlines_of rules defined source) source []
+  pub source-cut : (source : List ℕ) → Cuts rules defined (inlines.inlines_of rules defined source) source []
   unfolding inlines.inlines_of inlines.items_of
   source-cut source =
       let all = all-stand (length source) [] source [] [] (omega arith) (start source) in

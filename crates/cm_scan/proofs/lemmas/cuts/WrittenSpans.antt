@@ -16,10 +16,14 @@ use Rattle.cm_scan.specs.spans.RawHtml.{raw_html}
 use Rattle.cm_scan.specs.spans.Angles.{Angled, Addressed, Tagged, before, at_angle}
 use Rattle.cm_scan.specs.inlines.Atoms.{link_of}
 use Rattle.cm_scan.specs.steps.SpanSteps.{ended, link_if_followed, tagged}
-use Rattle.cm_scan.specs.laws.CutLaws.{IsWritten}
+use Rattle.cm_scan.specs.laws.CutLaws.{IsBetween, IsWritten}
 use Rattle.cm_scan.proofs.lemmas.texts.WordsGoOn.{none-some}
 use Rattle.cm_scan.proofs.lemmas.spans.RawHtmlGoesOn.{word-front}
 use Rattle.cm_scan.proofs.lemmas.spans.RawHtmlEnds.{raw_html-ends}
+
+abbrev pub first_byte : List ℕ → ℕ
+first_byte [] = 0
+first_byte (b ∷ bs) = b
 
 -- the source of an inline at the start of a text
 pub record Written (inline : Inline) (text rest : List ℕ) : Type 0 where
@@ -191,9 +195,16 @@ link-written text link e = go (in_angles text) refl e
         by false true e = this _ e refl refl
         by false false e = none-some e
 
-html-written : (rules : Rules) (text rest : List ℕ) → raw_html rules text ≡ Some rest → Written (Html (before rest text)) text rest
+-- what ends with `>` after a `<` is between them
+between-angles : (bs front rest : List ℕ) → 60 ∷ bs ≡ front ++ 62 ∷ rest → IsBetween (codes "<") (codes ">") (front ++ codes ">")
+between-angles bs [] rest e = absurd (omega (arith, ap first_byte e))
+between-angles bs (x ∷ xs) rest e = (xs, ap (λ c. c ∷ (xs ++ codes ">")) (sym (ap first_byte e)))
+
+html-written : (rules : Rules) (bs rest : List ℕ) → raw_html rules (60 ∷ bs) ≡ Some rest
+    → Written (Html (before rest (60 ∷ bs))) (60 ∷ bs) rest
 unfolding before
-html-written rules text rest e =
+html-written rules bs rest e =
+    let text : List ℕ = 60 ∷ bs in
     let end = raw_html-ends rules text rest e in
     let whole : text ≡ (end.front ++ codes ">") ++ rest = end.is ∙ sym (append_assoc end.front (codes ">") rest) in
     let front : take (length text - length rest) text ≡ end.front ++ codes ">" =
@@ -201,7 +212,8 @@ html-written rules text rest e =
     record {
       source = take (length text - length rest) text;
       is = whole ∙ ap (λ t. t ++ rest) (sym front);
-      law = subst (λ i. IsWritten i (take (length text - length rest) text)) (sym (outs-Html (take (length text - length rest) text))) refl;
+      law = subst (λ i. IsWritten i (take (length text - length rest) text)) (sym (outs-Html (take (length text - length rest) text)))
+          (refl, subst (IsBetween (codes "<") (codes ">")) (sym front) (between-angles bs end.front rest end.is));
     }
 
 unfoldable pub inline_in : Angled → Inline
@@ -212,11 +224,14 @@ unfoldable pub left_after : Angled → List ℕ
 left_after (Addressed link) = link.rest
 left_after (Tagged tag) = tag.rest
 
-pub angle-written : (rules : Rules) (text : List ℕ) (found : Angled) → at_angle rules text ≡ Some found
-    → Written (inline_in found) text (left_after found)
+pub angle-written : (rules : Rules) (bs : List ℕ) (found : Angled) → at_angle rules (60 ∷ bs) ≡ Some found
+    → Written (inline_in found) (60 ∷ bs) (left_after found)
 unfolding at_angle followed_autolink inline_in left_after
-angle-written rules text found e = go (autolink text) (raw_html rules text) refl refl e
+angle-written rules bs found e = go (autolink text) (raw_html rules text) refl refl e
   where
+    text : List ℕ
+    text = 60 ∷ bs
+
     tag : (html : Option (List ℕ)) → raw_html rules text ≡ html → tagged text html ≡ Some found
         → Written (inline_in found) text (left_after found)
     tag None g e = none-some e
@@ -225,7 +240,7 @@ angle-written rules text found e = go (autolink text) (raw_html rules text) refl
           text =
               before rest text;
           rest = rest;
-        })) found e) (html-written rules text rest g)
+        })) found e) (html-written rules bs rest g)
 
     go : (link : Option Autolink) (html : Option (List ℕ)) → autolink text ≡ link → raw_html rules text ≡ html
         → elim (link_if_followed rules link) as (λ _. Option Angled)
