@@ -35,15 +35,16 @@ PlainTextsAreSources = (rules : Rules) (defined : Defined) (text source after : 
 abbrev pub IsBetween : (front back text : List ℕ) → Type 0
 IsBetween front back text = (inside : List ℕ) × (text ≡ front ++ (inside ++ back))
 
--- How an atom is written: a code span as its content between two backtick strings of equal length; an autolink as its text between `<`
--- and `>`; raw HTML as it is, from `<` to `>`; a soft line break as a line feed after at most one space; and a hard line break as a line
--- feed after two spaces or more, or after a backslash.
+-- How an atom is written: a code span as its content between two backtick strings of equal length; an autolink as its text, which is its
+-- destination except for `mailto:`, between `<` and `>`; raw HTML as it is, from `<` to `>`; a soft line break as a line feed after at most
+-- one space; and a hard line break as a line feed after two spaces or more, or after a backslash.
 abbrev pub IsWritten : Inline-F Inline → (source : List ℕ) → Type 0
 IsWritten (inline.Code text) source =
     (n : ℕ) × (content : List ℕ) × (source ≡ replicate (suc n) (byte "`") ++ (content ++ replicate (suc n) (byte "`")))
     × (text ≡ stripped (one_line content))
 IsWritten (inline.Link dest title content) source =
-    (text : List ℕ) × (source ≡ codes "<" ++ (text ++ codes ">")) × (title ≡ []) × (content ≡ Text text ∷ [])
+    (text : List ℕ) × (source ≡ codes "<" ++ (text ++ codes ">")) × ((dest ≡ text) ⊎ (dest ≡ codes "mailto:" ++ text))
+    × (title ≡ []) × (content ≡ Text text ∷ [])
 IsWritten (inline.Html text) source = (source ≡ text) × IsBetween (codes "<") (codes ">") source
 IsWritten inline.Soft source = (n : ℕ) × (n ≤ 1) × (source ≡ replicate n (byte " ") ++ codes "\n")
 IsWritten inline.Hard source = ((n : ℕ) × (2 ≤ n) × (source ≡ replicate n (byte " ") ++ codes "\n")) ⊎ (source ≡ codes "\\\n")

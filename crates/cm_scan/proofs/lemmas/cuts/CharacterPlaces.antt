@@ -80,7 +80,7 @@ atom-ends inline.Hard s (inr e) = enclosed 92 10 [] s (omega arith) (omega arith
 atom-ends (inline.Emph is) s w = absurd w
 atom-ends (inline.Strong is) s w = absurd w
 atom-ends (inline.Strike is) s w = absurd w
-atom-ends (inline.Link d t is) s (text, e, untitled, same) = enclosed 60 62 text s (omega arith) (omega arith) e
+atom-ends (inline.Link d t is) s (text, e, to, untitled, same) = enclosed 60 62 text s (omega arith) (omega arith) e
 atom-ends (inline.Image d t is) s w = absurd w
 
 bracket-starts : (image : Bool) (s : List ℕ) → (b : ℕ) × (others : List ℕ) × (bracket_text image ++ s ≡ b ∷ others) × (b < 128)

@@ -1,5 +1,5 @@
 -- How code spans, autolinks, raw HTML and line breaks are written.
-use Rattle.std.proofs.Common.{◌≡◌, ℕ, zero, suc, ◌-◌, Bool, true, false, not, ◌&&◌, ◌==◌, List, [], ◌∷◌, ◌++◌, replicate, length, take, Option, Some, None, codes, if◌then◌else◌, nat_le, refl, sym, ap, subst, ◌∙◌, arith, append_assoc, length-append, inl, inr}
+use Rattle.std.proofs.Common.{◌≡◌, ◌⊎◌, ℕ, zero, suc, ◌-◌, Bool, true, false, not, ◌&&◌, ◌==◌, List, [], ◌∷◌, ◌++◌, replicate, length, take, Option, Some, None, codes, if◌then◌else◌, nat_le, refl, sym, ap, subst, ◌∙◌, arith, append_assoc, length-append, inl, inr}
 use Rattle.std.proofs.Math.Seq.{take-length, take-append-le}
 use Rattle.std.proofs.lemmas.Bool.{eqb-true}
 use Rattle.std.proofs.lemmas.Bool.Decides.{nat_tests}
@@ -161,38 +161,30 @@ link-written text link e = go (in_angles text) refl e
     grouped : (a b c d : List ℕ) → a ++ (b ++ (c ++ d)) ≡ (a ++ (b ++ c)) ++ d
     grouped a b c d = simp append_assoc refl
 
-    made : (r : Reading) → text ≡ codes "<" ++ (r.text ++ (codes ">" ++ r.rest)) → (link : Autolink) → r.text ≡ link.text
-        → r.rest ≡ link.rest → Written (link_of link) text link.rest
-    made r whole link same left = record {
-      source = codes "<" ++ (link.text ++ codes ">");
-      is = whole ∙ grouped (codes "<") r.text (codes ">") r.rest ∙ ap (λ t. (codes "<" ++ (t ++ codes ">")) ++ r.rest) same
-          ∙ ap (λ t. (codes "<" ++ (link.text ++ codes ">")) ++ t) left;
-      law = subst (λ i. IsWritten i (codes "<" ++ (link.text ++ codes ">"))) (sym (outs-Link link.destination [] (Text link.text ∷ [])))
-          (link.text, refl, refl, refl);
-    }
-
     go : (o : Option Reading) → in_angles text ≡ o → elim o as (λ _. Option Autolink) [ Some r ↦ as_autolink r | None ↦ None ] ≡ Some link
         → Written (link_of link) text link.rest
     go None f e = none-some e
     go (Some r) f e = by (is_absolute r.text) (is_address r.text) e
       where
-        whole : text ≡ codes "<" ++ (r.text ++ (codes ">" ++ r.rest))
-        whole = angles-whole text r f
+        link_to : List ℕ → Autolink
+        link_to dest = record { destination = dest; text = r.text; rest = r.rest }
 
-        this : (found : Autolink) → Some found ≡ Some link → r.text ≡ found.text → r.rest ≡ found.rest
+        source : List ℕ
+        source = codes "<" ++ (r.text ++ codes ">")
+
+        to : (dest : List ℕ) → (dest ≡ r.text) ⊎ (dest ≡ codes "mailto:" ++ r.text) → Some (link_to dest) ≡ Some link
             → Written (link_of link) text link.rest
-        this found e same left =
-            subst (λ (l : Autolink). Written (link_of l) text l.rest) (same_Some found link e) (made r whole found same left)
+        to dest is e = subst (λ (l : Autolink). Written (link_of l) text l.rest) (same_Some (link_to dest) link e) (record {
+          source = source;
+          is = angles-whole text r f ∙ grouped (codes "<") r.text (codes ">") r.rest;
+          law = subst (λ i. IsWritten i source) (sym (outs-Link dest [] (Text r.text ∷ []))) (r.text, refl, is, refl, refl);
+        })
 
-        by : (absolute address : Bool) → (if absolute then Some (record { destination = r.text; text = r.text; rest = r.rest })
-            else (if address then Some (record {
-              destination =
-                  codes "mailto:" ++ r.text;
-              text = r.text;
-              rest = r.rest;
-            }) else None)) ≡ Some link → Written (link_of link) text link.rest
-        by true address e = this _ e refl refl
-        by false true e = this _ e refl refl
+        by : (absolute address : Bool)
+            → (if absolute then Some (link_to r.text) else (if address then Some (link_to (codes "mailto:" ++ r.text)) else None)) ≡ Some link
+            → Written (link_of link) text link.rest
+        by true address e = to r.text (inl refl) e
+        by false true e = to (codes "mailto:" ++ r.text) (inr refl) e
         by false false e = none-some e
 
 -- what ends with `>` after a `<` is between them
