@@ -203,8 +203,8 @@ module _ (rules : Rules) (defined : Defined) where
 
       ends : a ≡ b
       ends = ap (λ (x : LinkEnd). x.rest) (same_Some (link_end (d, t) a) (link_end (e, u) b)
-          (sym w.0 ∙ ap (λ x. end_at rules defined (sources_of x) (s ++ a)) content_same.0 ∙ ap
-          (λ x. end_at rules defined (sources_of ms) x) tails ∙ v.0))
+          (sym w.0 ∙ ap (λ x. end_at rules defined (sources_of x) (s ++ a)) content_same.0
+          ∙ ap (λ x. end_at rules defined (sources_of ms) x) tails ∙ v.0))
 
   apart : {A : Type 0} → ⊥ → A
   apart e = absurd e

@@ -291,8 +291,7 @@ module _ (rules : Rules) (defined : Defined) where
             (subst (Are before) (front-context inner.nodes inner.into.whole) front)
             (are-left n o _ middle.0 (ap (λ k. encloses k n) same ∙ enclosing))) (
               ((enclosing, subst (AreCut rules defined inner.nodes) inner-context inner.into.cut), refl, inner.apart),
-              are-left n c
-                  (pa ++ x) back.0 enclosing,
+              are-left n c (pa ++ x) back.0 enclosing,
             ))
             (back.1);
       }

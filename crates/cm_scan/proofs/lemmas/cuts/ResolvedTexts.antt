@@ -228,8 +228,8 @@ pub special-text : (b : ℕ) (taken rest characters : List ℕ) (len : ℕ) → 
 unfolding resolved
 special-text b taken rest characters len e left = (
   1,
-  ap made e ∙ ap (λ t. (t, drop len (b ∷ (taken ++ rest)))) (append-nil (encode_utf8_all characters)) ∙ ap
-      (λ t. (encode_utf8_all characters, t)) left,
+  ap made e ∙ ap (λ t. (t, drop len (b ∷ (taken ++ rest)))) (append-nil (encode_utf8_all characters))
+      ∙ ap (λ t. (encode_utf8_all characters, t)) left,
 )
   where
     made : Found → List ℕ × List ℕ
