@@ -33,7 +33,7 @@ pub fn cut_examples()
 {}
 
 /// The places of inlines, an inline before those inside it, are nested: each is inside any earlier one, or
-/// after it. The bytes at each place are the source of its inline, and they are whole characters.
+/// after it. The bytes at each place are the source of its inline, and no place splits a character.
 pub fn places_are_nested()
     ensures sources { PlacesAreSources }
     ensures within { PlacesAreWithin }

@@ -4,7 +4,7 @@ use Rattle.std.specs.List.{All, slice_range}
 use Rattle.cm_scan.specs.inlines.Pairing.{bracket_text}
 use Rattle.cm_scan.specs.inlines.Cuts.{Node, textual, atomic, emphasis, bracketed, Nodes, none, node, source_of, sources_of}
 
--- a node, where it starts, and where it ends: after its last byte
+-- a node, the place of its first byte, and the place after its last byte
 pub record Place : Type 0 where
   pub of : Node
   pub start : ℕ
@@ -26,7 +26,7 @@ unfoldable mutual
   places_from start none = []
   places_from start (node n ns) = places_at start n ++ places_from (start + length (source_of n)) ns
 
--- the places of the nodes into which a source is cut
+-- the places of the nodes into which a source is cut, each before those inside it
 abbrev pub places_of : Nodes → List Place
 places_of nodes = places_from 0 nodes
 
@@ -44,10 +44,11 @@ PlacesAreWithin = (nodes : Nodes)
 abbrev pub IsInsideOrAfter : Place → Place → Type 0
 IsInsideOrAfter other place = (other.start ≤ place.start) × ((place.end ≤ other.end) ⊎ (other.end ≤ place.start))
 
+-- Each place is inside any earlier one, or after it.
 abbrev pub AreNested : List Place → Type 0
 AreNested [] = ⊤
 AreNested (place ∷ places) = All (IsInsideOrAfter place) places × AreNested places
 
--- Each place is inside any earlier one, or after it: no two overlap otherwise.
+-- The places of nodes are nested, so no two overlap otherwise.
 abbrev pub PlacesAreNested : Type 0
 PlacesAreNested = (nodes : Nodes) → AreNested (places_of nodes)

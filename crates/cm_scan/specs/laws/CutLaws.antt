@@ -17,7 +17,7 @@ abbrev pub SourcesAreCut : Type 0
 SourcesAreCut = (rules : Rules) (defined : Defined) (source : List ℕ)
     → (nodes : Nodes) × CutInto rules defined nodes (inlines.inlines_of rules defined source) source []
 
--- A source is cut into given inlines in one way.
+-- A source is cut into given inlines in one way at most.
 abbrev pub OneCut : Type 0
 OneCut = (rules : Rules) (defined : Defined) (inlines : List Inline) (source after : List ℕ) (nodes others : Nodes)
     → CutInto rules defined nodes inlines source after → CutInto rules defined others inlines source after → nodes ≡ others
@@ -62,7 +62,7 @@ abbrev pub TailsAreWritten : Type 0
 TailsAreWritten = (rules : Rules) (defined : Defined) (image : Bool) (dest title : List ℕ) (inside : Nodes) (tail after : List ℕ)
     → IsCut rules defined (bracketed image dest title inside tail) after → IsTail tail
 
--- In a source of whole characters, each place starts and ends between characters.
+-- In a source in UTF-8 each inline starts and ends between characters.
 abbrev pub PlacesPartCharacters : Type 0
 PlacesPartCharacters = (rules : Rules) (defined : Defined) (source : List ℕ) (nodes : Nodes)
     → CutInto rules defined nodes (inlines.inlines_of rules defined source) source [] → IsUtf8 source
