@@ -351,13 +351,11 @@ whole-anywhere rules before b bs inline rest e = ap (λ (a : AtomRead). Some a) 
   where
     go : (v : Bool)
         → elim v as (λ _. AtomRead) [ true ↦ or_byte b bs (markup_atom rules before b bs) | false ↦ byte_atom b bs ] ≡ record {
-          atom =
-              Whole inline;
+          atom = Whole inline;
           rest = rest;
         }
         → elim v as (λ _. AtomRead) [ true ↦ or_byte b bs (markup_atom rules [] b bs) | false ↦ byte_atom b bs ] ≡ record {
-          atom =
-              Whole inline;
+          atom = Whole inline;
           rest = rest;
         }
     go true e = alike-markup rules before b bs inline rest e

@@ -36,8 +36,7 @@ record HasEnds (s : List ℕ) : Type 0 where
 enclosed : (a b : ℕ) (inside s : List ℕ) → a < 128 → b < 128 → s ≡ a ∷ (inside ++ b ∷ []) → HasEnds s
 enclosed a b inside s low_a low_b e =
     record {
-      first =
-          a;
+      first = a;
       others = inside ++ b ∷ [];
       starts = e;
       first_low = low_a;
@@ -168,8 +167,7 @@ module _ (rules : Rules) (defined : Defined) where
   marks-ends zero c some low = absurd (omega (arith, some))
   marks-ends (suc n) c some low =
       record {
-        first =
-            c;
+        first = c;
         others = replicate n c;
         starts = refl;
         first_low = low;
@@ -183,8 +181,7 @@ module _ (rules : Rules) (defined : Defined) where
   bracket-ends true = enclosed 33 91 [] (bracket_text true) (omega arith) (omega arith) refl
   bracket-ends false =
       record {
-        first =
-            91;
+        first = 91;
         others = [];
         starts = refl;
         first_low = omega arith;
@@ -199,8 +196,7 @@ module _ (rules : Rules) (defined : Defined) where
   tail-has_ends d t image ns tail after w =
       let last = tail-ends tail (tails_are_written rules defined image d t ns tail after w) in
       record {
-        first =
-            93;
+        first = 93;
         others = tail;
         starts = refl;
         first_low = omega arith;
@@ -217,30 +213,30 @@ module _ (rules : Rules) (defined : Defined) where
   sums front s others = omega (arith, length-append s others, length-append front s)
 
   module _ (text : List ℕ) (utf8 : IsUtf8 text) where
-    abbrev Parts : ℕ → Type 0
-    Parts at = IsCharBoundary text at
+    abbrev IsParted : ℕ → Type 0
+    IsParted at = IsCharBoundary text at
 
-    abbrev ArePartedAt : Place → Type 0
-    ArePartedAt p = Parts p.start × Parts p.end
+    abbrev HasBoundaries : Place → Type 0
+    HasBoundaries p = IsParted p.start × IsParted p.end
 
     -- between a node and those after it
     middle : (front back : List ℕ) (n : Node) (ns : Nodes) (after : List ℕ) → text ≡ front ++ ((source_of n ++ sources_of ns) ++ back)
         → AreCut rules defined (node n ns) after
-        → (is_text n && starts_with_text ns) ≡ false → Parts (length front + length (source_of n ++ sources_of ns))
-        → Parts (length front + length (source_of n))
+        → (is_text n && starts_with_text ns) ≡ false → IsParted (length front + length (source_of n ++ sources_of ns))
+        → IsParted (length front + length (source_of n))
     unfolding sources_of
     middle front back n ns after e w apart end = go (is_text n) refl ns e w apart end
       where
         go : (t : Bool) → is_text n ≡ t → (ns : Nodes) → text ≡ front ++ ((source_of n ++ sources_of ns) ++ back)
             → AreCut rules defined (node n ns) after
-            → (is_text n && starts_with_text ns) ≡ false → Parts (length front + length (source_of n ++ sources_of ns))
-            → Parts (length front + length (source_of n))
+            → (is_text n && starts_with_text ns) ≡ false → IsParted (length front + length (source_of n ++ sources_of ns))
+            → IsParted (length front + length (source_of n))
         go false h ns e w apart end =
             end-of text front (source_of n) (sources_of ns ++ back) utf8 (node-ends n _ h w.0)
             (e ∙ ap (λ t. front ++ t) (append_assoc (source_of n) (sources_of ns) back))
-        go true h none e w apart end = subst (λ t. Parts (length front + length t)) (append-nil (source_of n)) end
+        go true h none e w apart end = subst (λ t. IsParted (length front + length t)) (append-nil (source_of n)) end
         go true h (node m ms) e w apart end =
-            subst Parts (length-append front (source_of n))
+            subst IsParted (length-append front (source_of n))
             (start-of text (front ++ source_of n) (source_of m) (sources_of ms ++ back)
             (node-ends m _ (sym (ap (λ v. v && is_text m) h) ∙ apart) w.1.0)
             (e ∙ grouped front (source_of n) (source_of m) (sources_of ms) back))
@@ -248,15 +244,15 @@ module _ (rules : Rules) (defined : Defined) where
             grouped : (x y z v w : List ℕ) → x ++ ((y ++ (z ++ v)) ++ w) ≡ (x ++ y) ++ (z ++ (v ++ w))
             grouped x y z v w = simp append_assoc refl
 
-    from-start : (start from : ℕ) (ns : Nodes) → from ≡ start → Each ArePartedAt (places_from from ns)
-        → Each ArePartedAt (places_from start ns)
-    from-start start from ns e all = subst (λ k. Each ArePartedAt (places_from k ns)) e all
+    from-start : (start from : ℕ) (ns : Nodes) → from ≡ start → Each HasBoundaries (places_from from ns)
+        → Each HasBoundaries (places_from start ns)
+    from-start start from ns e all = subst (λ k. Each HasBoundaries (places_from k ns)) e all
 
     -- the end of what is inside, before the marks after it
     last-part : (front mark inside end back : List ℕ) → HasEnds end → text ≡ front ++ ((mark ++ (inside ++ end)) ++ back)
-        → Parts (length (front ++ mark) + length inside)
+        → IsParted (length (front ++ mark) + length inside)
     last-part front mark inside end back h e =
-        subst Parts (length-append (front ++ mark) inside)
+        subst IsParted (length-append (front ++ mark) inside)
         (start-of text ((front ++ mark) ++ inside) end back h (e ∙ grouped front mark inside end back))
       where
         grouped : (x y z v w : List ℕ) → x ++ ((y ++ (z ++ v)) ++ w) ≡ ((x ++ y) ++ z) ++ (v ++ w)
@@ -265,54 +261,54 @@ module _ (rules : Rules) (defined : Defined) where
     mutual
       unfolding places_at places_from source_of sources_of
 
-      parts-node : (front back : List ℕ) (n : Node) (after : List ℕ) → text ≡ front ++ (source_of n ++ back) → IsCut rules defined n after
+      parted-node : (front back : List ℕ) (n : Node) (after : List ℕ) → text ≡ front ++ (source_of n ++ back) → IsCut rules defined n after
           → ApartInside n
-          → Parts (length front) → Parts (length front + length (source_of n)) → Each ArePartedAt (places_at (length front) n)
-      parts-node front back (textual t s) after e w apart start end = ((start, end), tt)
-      parts-node front back (atomic i s) after e w apart start end = ((start, end), tt)
-      parts-node front back (emphasis c n ns) after e w apart start end =
+          → IsParted (length front) → IsParted (length front + length (source_of n)) → Each HasBoundaries (places_at (length front) n)
+      parted-node front back (textual t s) after e w apart start end = ((start, end), tt)
+      parted-node front back (atomic i s) after e w apart start end = ((start, end), tt)
+      parted-node front back (emphasis c n ns) after e w apart start end =
           let marks = replicate n c in
           let low = encloses-low c n w.0 in (
             (start, end),
             from-start (length front + n) _ ns (length-append front marks ∙ ap (λ k. length front + k) (length-replicate n c))
-                (parts-nodes (front ++ marks) (marks ++ back) ns _ (e ∙ sym (within front marks (sources_of ns) marks back)) w.1 apart
-                (subst Parts (sym (length-append front marks))
+                (parted-nodes (front ++ marks) (marks ++ back) ns _ (e ∙ sym (within front marks (sources_of ns) marks back)) w.1 apart
+                (subst IsParted (sym (length-append front marks))
                 (end-of text front marks ((sources_of ns ++ marks) ++ back) utf8 (marks-ends n c low.0 low.1)
                 (e ∙ first-part front marks (sources_of ns ++ marks) back)))
                 (last-part front marks (sources_of ns) marks back (marks-ends n c low.0 low.1) e)),
           )
-      parts-node front back (bracketed image d t ns tail) after e w apart start end =
+      parted-node front back (bracketed image d t ns tail) after e w apart start end =
           let mark = bracket_text image in
           let whole = sym (within front mark (sources_of ns) (93 ∷ tail) back) in (
             (start, end),
             from-start (length front + length mark) _ ns (length-append front mark)
-                (parts-nodes (front ++ mark) ((93 ∷ tail) ++ back) ns _ (e ∙ whole) w.1 apart
-                (subst Parts (sym (length-append front mark))
+                (parted-nodes (front ++ mark) ((93 ∷ tail) ++ back) ns _ (e ∙ whole) w.1 apart
+                (subst IsParted (sym (length-append front mark))
                 (end-of text front mark ((sources_of ns ++ (93 ∷ tail)) ++ back) utf8 (bracket-ends image)
                 (e ∙ first-part front mark (sources_of ns ++ (93 ∷ tail)) back)))
                 (last-part front mark (sources_of ns) (93 ∷ tail) back (tail-has_ends d t image ns tail after w) e)),
           )
 
-      parts-nodes : (front back : List ℕ) (ns : Nodes) (after : List ℕ) → text ≡ front ++ (sources_of ns ++ back)
+      parted-nodes : (front back : List ℕ) (ns : Nodes) (after : List ℕ) → text ≡ front ++ (sources_of ns ++ back)
           → AreCut rules defined ns after → AreApart ns
-          → Parts (length front) → Parts (length front + length (sources_of ns)) → Each ArePartedAt (places_from (length front) ns)
-      parts-nodes front back none after e w apart start end = tt
-      parts-nodes front back (node n ns) after e w apart start end =
+          → IsParted (length front) → IsParted (length front + length (sources_of ns)) → Each HasBoundaries (places_from (length front) ns)
+      parted-nodes front back none after e w apart start end = tt
+      parted-nodes front back (node n ns) after e w apart start end =
           let between = middle front back n ns after e w apart.0 end in
-          each-append ArePartedAt (places_at (length front) n) (places_from (length front + length (source_of n)) ns)
-          (parts-node front (sources_of ns ++ back) n _
+          each-append HasBoundaries (places_at (length front) n) (places_from (length front + length (source_of n)) ns)
+          (parted-node front (sources_of ns ++ back) n _
           (e ∙ ap (λ t. front ++ t) (append_assoc (source_of n) (sources_of ns) back)) w.0 apart.1 start between)
           (from-start (length front + length (source_of n)) _ ns (length-append front (source_of n))
-          (parts-nodes (front ++ source_of n) back ns after (e ∙ sym (beyond front (source_of n) (sources_of ns) back)) w.1 apart.2
-          (subst Parts (sym (length-append front (source_of n))) between)
-          (subst Parts (sums front (source_of n) (sources_of ns)) end)))
+          (parted-nodes (front ++ source_of n) back ns after (e ∙ sym (beyond front (source_of n) (sources_of ns) back)) w.1 apart.2
+          (subst IsParted (sym (length-append front (source_of n))) between)
+          (subst IsParted (sums front (source_of n) (sources_of ns)) end)))
 
 pub places_part_characters : PlacesPartCharacters
 places_part_characters rules defined source nodes into utf8 =
     let c = source-cut rules defined source in
     let same = one_cut rules defined _ source [] c.nodes nodes c.into into in
-    All-from_recursion (ArePartedAt rules defined source utf8) (places_of nodes)
-    (parts-nodes rules defined source utf8 [] [] nodes [] (sym into.whole ∙ sym (append-nil (sources_of nodes))) into.cut
+    All-from_recursion (HasBoundaries rules defined source utf8) (places_of nodes)
+    (parted-nodes rules defined source utf8 [] [] nodes [] (sym into.whole ∙ sym (append-nil (sources_of nodes))) into.cut
     (subst AreApart same c.apart)
     (IsCharBoundary-start source utf8)
     (subst (IsCharBoundary source) (sym (zero-add (length (sources_of nodes)) ∙ ap length into.whole)) (IsCharBoundary-end source)))

@@ -91,8 +91,7 @@ items-left n r = go (nat_le r.left n)
   where
     go : (b : Bool)
         → items_of (cond b [] (waiting (record r {
-          left =
-              r.left - n;
+          left = r.left - n;
         }) ∷ [])) ≡ cond b [] (Delimiters (record r { left = r.left - n }) ∷ [])
     go true = refl
     go false = refl
@@ -414,8 +413,7 @@ module _ (rules : Rules) (defined : Defined) where
           let one = pair-keeps ps more x w e in
           let all = k one.placed one.are in
           record {
-            placed =
-                all.placed;
+            placed = all.placed;
             items_are = all.items_are ∙ ap (λ t. pairs_within n t) one.items_are;
             whole = all.whole
                 ∙ one.whole;

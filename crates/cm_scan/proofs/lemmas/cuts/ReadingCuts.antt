@@ -356,8 +356,7 @@ module _ (rules : Rules) (defined : Defined) where
       go (Plain t) rest e k =
           let whole = ap (λ l. b ∷ l) k.is in
           record {
-            taken =
-                k.taken;
+            taken = k.taken;
             is = k.is;
             stands = one-more (characters t (b ∷ k.taken)) items so_far rest
                 (seen-as items so_far (b ∷ bs) (b ∷ k.taken ++ rest) whole s) k.law;
@@ -365,8 +364,7 @@ module _ (rules : Rules) (defined : Defined) where
       go (Whole inline) rest e k =
           let whole = ap (λ l. b ∷ l) k.is in
           record {
-            taken =
-                k.taken;
+            taken = k.taken;
             is = k.is;
             stands = one-more (finished (atomic inline (b ∷ k.taken))) items so_far rest
                 (seen-as items so_far (b ∷ bs) (b ∷ k.taken ++ rest) whole s)
@@ -375,8 +373,7 @@ module _ (rules : Rules) (defined : Defined) where
       go (Delimiter run) rest e k =
           let whole = ap (λ l. b ∷ l) k.is ∙ ap (λ l. l ++ rest) k.law.0 in
           record {
-            taken =
-                k.taken;
+            taken = k.taken;
             is = k.is;
             stands = read-as _ _ _ rest (ap (λ l. so_far ++ l) (sym k.law.0))
                 (one-more (waiting run) items so_far rest
@@ -385,8 +382,7 @@ module _ (rules : Rules) (defined : Defined) where
       go (OpenBracket image) rest e k =
           let whole = ap (λ l. b ∷ l) k.is ∙ ap (λ l. l ++ rest) k.law in
           record {
-            taken =
-                k.taken;
+            taken = k.taken;
             is = k.is;
             stands = read-as _ _ _ rest (ap (λ l. so_far ++ l) (sym k.law))
                 (one-more (opener image rest) items so_far rest (seen-as items so_far (b ∷ bs) (bracket_text image ++ rest) whole s) refl);

@@ -69,8 +69,7 @@ up_to-whole n in_run (b ∷ bs) r e =
     go : (c : Bool) → (b == 96 && not in_run && run_length 96 (b ∷ bs) == n) ≡ c
         → elim c as (λ _. Option Reading) [
           | true ↦ Some (record {
-            text =
-                [];
+            text = [];
             rest = after_run 96 (b ∷ bs);
           })
           | false ↦ beyond b (up_to_run n (b == 96) bs)
@@ -147,8 +146,7 @@ angles-whole text r e = go (after_word (codes "<") text) refl e
         by None g e = none-some e
         by (Some rest) g e =
             subst (λ (s : Reading). text ≡ codes "<" ++ (s.text ++ (codes ">" ++ s.rest))) (same_Some (record {
-              text =
-                  front;
+              text = front;
               rest = rest;
             }) r e)
             (word-front (codes "<") text inside f ∙ ap (λ t. codes "<" ++ t)
@@ -229,8 +227,7 @@ angle-written rules bs found e = go (autolink text) (raw_html rules text) refl r
     tag None g e = none-some e
     tag (Some rest) g e =
         subst (λ f. Written (inline_in f) text (left_after f)) (same_Some (Tagged (record {
-          text =
-              before rest text;
+          text = before rest text;
           rest = rest;
         })) found e) (html-written rules bs rest g)
 

@@ -75,8 +75,7 @@ beyond-last closes b bs None r e k = none-some e
 beyond-last closes b bs (Some s) r e k =
     let c = k s refl in
     subst (λ (t : Reading). Closed closes t.rest (b ∷ bs)) (some-is e) (record {
-      last =
-          c.last;
+      last = c.last;
       passes = c.passes;
       end = beyond-byte b bs c.end;
     })
@@ -96,8 +95,7 @@ closed_by-last closes forbidden false (b ∷ bs) r e =
     go : (last : Bool) → closes b ≡ last → (barred : Bool)
         → elim last as (λ _. Option Reading) [
           | true ↦ Some (record {
-            text =
-                [];
+            text = [];
             rest = bs;
           })
           | false ↦ elim barred as (λ _. Option Reading) [ true ↦ None | false ↦ beyond b inside ]
@@ -267,8 +265,7 @@ reference_end-tail defined source text end e = go (label text) refl e
             [ Some rest ↦ Some (link_end target rest) | None ↦ Some (link_end target text) ] ≡ Some end → Tailed end.rest text
         by (Some rest) f e =
             left-as text rest end.rest (ap (λ (t : LinkEnd). t.rest) (some-is e)) (in-brackets rest text (record {
-              inside =
-                  [];
+              inside = [];
               is = word-front (codes "[]") text rest f;
             }))
         by None f e =
