@@ -7,3 +7,5 @@ pub mod Atoms
 pub mod Brackets
 pub mod Inlines
 pub mod DelimiterRuns
+pub mod Cuts
+pub mod Places

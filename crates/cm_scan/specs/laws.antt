@@ -2,9 +2,11 @@ pub mod PartLaws
 pub mod BlockLaws
 pub mod InlineLaws
 pub mod SpanLaws
+pub mod CutLaws
 pub mod RuleLaws
 pub mod Looseness
 pub mod BlockExamples
 pub mod InlineExamples
 pub mod SpanExamples
+pub mod CutExamples
 pub mod RuleExamples

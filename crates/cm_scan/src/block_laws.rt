@@ -4,7 +4,9 @@ ghost use Rattle.cm_scan.specs.laws.BlockLaws.{UnindentedLine, QuoteAndSpace, Qu
 ghost use Rattle.cm_scan.specs.laws.BlockLaws.{ItemAlone, RunUpToItsEnd, RunUpToItsUnderline};
 ghost use Rattle.cm_scan.specs.laws.BlockLaws.{FencedUpToItsEnd, FencedToTheLast, HtmlUpToItsEnd};
 ghost use Rattle.cm_scan.specs.laws.BlockLaws.{HtmlUpToABlankLine, KindOfItself};
-ghost use Rattle.cm_scan.specs.laws.BlockLaws.{ItemBeforeItsList, ItemByItself};
+ghost use Rattle.cm_scan.specs.laws.BlockLaws.{ItemBeforeItsList, ItemByItself, ContentEndsText};
+ghost use Rattle.cm_scan.specs.laws.BlockLaws.{QuotedEndsLine, StayingInQuoteEndsLine};
+ghost use Rattle.cm_scan.specs.laws.BlockLaws.{ListedEndsLine, StayingInItemEndsLine};
 
 /// What a line starts, and whether it is an underline, is given by its whole text, if it isn't indented or
 /// lazy.
@@ -43,4 +45,14 @@ pub fn items_before_lists()
     ensures kind { KindOfItself }
     ensures list { ItemBeforeItsList }
     ensures alone { ItemByItself }
+{}
+
+/// What is left of a line in block quotes and items is an end of the line, indentation aside, even where a
+/// tab is cut.
+pub fn contents_end_lines()
+    ensures text { ContentEndsText }
+    ensures quote { QuotedEndsLine }
+    ensures in_quote { StayingInQuoteEndsLine }
+    ensures item { ListedEndsLine }
+    ensures in_item { StayingInItemEndsLine }
 {}

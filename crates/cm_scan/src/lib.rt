@@ -36,6 +36,7 @@ mod autolinks;
 pub mod block_laws;
 mod characters;
 mod code_spans;
+pub mod cut_laws;
 mod gaps;
 mod html_blocks;
 mod inline_html;

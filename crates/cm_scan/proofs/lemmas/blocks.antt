@@ -5,6 +5,7 @@ pub mod OwnersOfLines
 pub mod LooseByOwners
 pub mod HeadingLevels
 pub mod SingleBlocks
+pub mod ContentEnds
 pub mod LineFormLemmas
 pub mod MarkerLemmas
 pub mod WordsInAnyCase

@@ -9,7 +9,7 @@ use Rattle.cm_scan.specs.Words.{is_space_or_tab}
 use Rattle.cm_scan.specs.blocks.Lines.{is_blank, content_of, with_ending}
 use Rattle.cm_scan.specs.blocks.LineForms.{underline, Fence, ItemMarker, marker_width, is_same_kind}
 use Rattle.cm_scan.specs.blocks.HtmlBlocks.{HtmlKind, is_html_end, ends_at_blank_line}
-use Rattle.cm_scan.specs.blocks.Starts.{start_of_content, start_of, underline_of, after_quote_marker, content_column, first_content}
+use Rattle.cm_scan.specs.blocks.Starts.{start_of_content, start_of, underline_of, Continuation, Stays, StaysIfOpen, Leaves, after_quote_marker, continuation_in_quote, content_column, first_content, continuation_in_item}
 use Rattle.cm_scan.specs.blocks.Parts.{Parts, blank, list, ItemParts, last_item, item, next_items, put_item}
 use Rattle.cm_scan.specs.blocks.Blocks.{add_text, GoesOn, Ends, Underlines, next_line, text_run, taken, closes_fence, fenced, html_lines}
 
@@ -144,3 +144,34 @@ ItemBeforeItsList = (kind other : ListKind) (n : ℕ) (inside rest : Parts) (ite
 -- An item before anything else is a list by itself.
 abbrev pub ItemByItself : Type 0
 ItemByItself = (kind : ListKind) (inside rest : Parts) → next_items kind 0 rest ≡ None → put_item kind inside rest ≡ list kind (last_item inside) rest
+
+-- What is left of lines in containers
+
+-- What is left of the line is an end of it, indentation aside. So the place of what is left is given by its length.
+abbrev pub EndsLine : (left line : LineView) → Type 0
+EndsLine left line = (front : List ℕ) × (content_of line ≡ front ++ content_of left)
+
+-- The same where the line stays in a container.
+abbrev pub EndsIfInside : Continuation → LineView → Type 0
+EndsIfInside (Stays left) line = EndsLine left line
+EndsIfInside (StaysIfOpen left) line = EndsLine left line
+EndsIfInside Leaves line = ⊤
+
+-- The content of a line ends its text.
+abbrev pub ContentEndsText : Type 0
+ContentEndsText = (line : LineView) → (front : List ℕ) × (line.text ≡ front ++ content_of line)
+
+-- What is left after the marker of a block quote ends the line, and so does what stays in an open one.
+abbrev pub QuotedEndsLine : Type 0
+QuotedEndsLine = (line : LineView) → EndsLine (after_quote_marker line) line
+
+abbrev pub StayingInQuoteEndsLine : Type 0
+StayingInQuoteEndsLine = (rules : Rules) (line : LineView) → EndsIfInside (continuation_in_quote rules line) line
+
+-- The content of an item on the line of its marker ends the line, and so does what stays in an open item.
+abbrev pub ListedEndsLine : Type 0
+ListedEndsLine = (marker : ItemMarker) (line : LineView) → EndsLine (first_content marker line) line
+
+abbrev pub StayingInItemEndsLine : Type 0
+StayingInItemEndsLine = (rules : Rules) (column : ℕ) (bare : Bool) (line : LineView)
+    → EndsIfInside (continuation_in_item rules column bare line) line

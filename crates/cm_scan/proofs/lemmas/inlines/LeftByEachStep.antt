@@ -1,10 +1,11 @@
 -- What each step of the reading of inlines leaves of its source, and how long the runs are that it reads.
-use Rattle.std.proofs.Common.{◌≡◌, ℕ, zero, suc, ◌+◌, Bool, true, false, not, ◌&&◌, ◌||◌, ◌==◌, List, [], ◌∷◌, ◌++◌, length, drop, Option, Some, None, codes, refl, sym, ap, subst, ◌∙◌, ◌≤◌, arith, length-append}
+use Rattle.std.proofs.Common.{◌≡◌, ℕ, zero, suc, ◌+◌, Bool, true, false, not, ◌&&◌, ◌||◌, ◌==◌, List, [], ◌∷◌, ◌++◌, length, drop, Option, Some, None, codes, refl, sym, ap, subst, ◌∙◌, ◌≤◌, arith, append_assoc, length-append, inl, inr}
 use Rattle.std.proofs.lemmas.List.Sums.{sum_by-cons}
 use Rattle.std.specs.Prelude.{nat_le, replicate, encode_utf8_all, if◌then◌else◌}
 use Rattle.std.specs.Str.Parse.{digits_value}
 use Rattle.std.specs.Int.{is_in_range}
 use Rattle.std.specs.Char.{is_ascii_control}
+use Rattle.std.proofs.lemmas.Bool.{eqb-true}
 use Rattle.std.proofs.lemmas.Bool.Decides.{nat_tests}
 use Rattle.std.specs.Option.{option_map}
 use Rattle.cm_text.specs.Rules.{Rules}
@@ -32,11 +33,21 @@ use Rattle.cm_scan.specs.inlines.DelimiterRuns.{run_in, characters_of}
 use Rattle.cm_scan.specs.steps.SpanSteps.{link_if_followed, ended, tagged, spanned}
 use Rattle.cm_scan.proofs.lemmas.texts.WordsGoOn.{none-some}
 use Rattle.cm_scan.proofs.lemmas.texts.EndsOfTexts.{IsEnd, whole-end, same-left, beyond-byte, end-of-end, end-beyond-one, drop-end, word-end, skip-end, run-end, gap-end}
+use Rattle.cm_scan.specs.laws.CutLaws.{IsTail}
+use Rattle.cm_scan.proofs.lemmas.spans.RawHtmlGoesOn.{word-front}
 use Rattle.cm_scan.proofs.lemmas.spans.RawHtmlEnds.{raw_html-ends}
 
 -- what was read, where something was
 some-is : {A : Type 0} {a b : A} → Some a ≡ Some b → a ≡ b
 some-is {A} {a} e = ap (λ (o : Option A). elim o as (λ _. A) [ None ↦ a | Some c ↦ c ]) e
+
+-- a part of a text between two bytes, and what is left after it
+record Between (first last : ℕ) (rest text : List ℕ) : Type 0 where
+  pub inside : List ℕ
+  pub is : text ≡ first ∷ (inside ++ last ∷ rest)
+
+between-ends : (first last : ℕ) (bs rest text : List ℕ) → text ≡ first ∷ bs → IsEnd (last ∷ rest) bs → Between first last rest text
+between-ends first last bs rest text e h = record { inside = h.front; is = e ∙ ap (λ t. first ∷ t) h.is }
 
 -- Readings
 
@@ -52,21 +63,53 @@ kept-is : (test : Reading → Bool) (o : Option Reading) (r : Reading) → keep_
 kept-is test None r e = none-some e
 kept-is test (Some s) r e = ap (λ (t : Reading). Some t) (given-is (test s) s r e)
 
-closed_by-end : (closes forbidden : ℕ → Bool) (escaped : Bool) (text : List ℕ) (r : Reading) → up_to_closing closes forbidden escaped text ≡ Some r → IsEnd r.rest text
+-- what is left after the byte that closes it
+record Closed (closes : ℕ → Bool) (rest text : List ℕ) : Type 0 where
+  pub last : ℕ
+  pub passes : closes last ≡ true
+  pub end : IsEnd (last ∷ rest) text
+
+beyond-last : (closes : ℕ → Bool) (b : ℕ) (bs : List ℕ) (o : Option Reading) (r : Reading) → beyond b o ≡ Some r
+    → ((s : Reading) → o ≡ Some s → Closed closes s.rest bs) → Closed closes r.rest (b ∷ bs)
+beyond-last closes b bs None r e k = none-some e
+beyond-last closes b bs (Some s) r e k =
+    let c = k s refl in
+    subst (λ (t : Reading). Closed closes t.rest (b ∷ bs)) (some-is e) (record {
+      last = c.last;
+      passes = c.passes;
+      end = beyond-byte b bs c.end;
+    })
+
+closed_by-last : (closes forbidden : ℕ → Bool) (escaped : Bool) (text : List ℕ) (r : Reading)
+    → up_to_closing closes forbidden escaped text ≡ Some r → Closed closes r.rest text
 unfolding up_to_closing
-closed_by-end closes forbidden escaped [] r e = none-some e
-closed_by-end closes forbidden true (b ∷ bs) r e = beyond-end b bs (up_to_closing closes forbidden false bs) r e (λ s h. closed_by-end closes forbidden false bs s h)
-closed_by-end closes forbidden false (b ∷ bs) r e =
-    go (closes b) (forbidden b) e (λ s h. closed_by-end closes forbidden (escapes_next b bs) bs s h)
+closed_by-last closes forbidden escaped [] r e = none-some e
+closed_by-last closes forbidden true (b ∷ bs) r e =
+    beyond-last closes b bs (up_to_closing closes forbidden false bs) r e (λ s h. closed_by-last closes forbidden false bs s h)
+closed_by-last closes forbidden false (b ∷ bs) r e =
+    go (closes b) refl (forbidden b) e (λ s h. closed_by-last closes forbidden (escapes_next b bs) bs s h)
   where
     inside : Option Reading
     inside = up_to_closing closes forbidden (escapes_next b bs) bs
 
-    go : (last barred : Bool) → elim last as (λ _. Option Reading) [ true ↦ Some (record { text = []; rest = bs }) | false ↦ elim barred as (λ _. Option Reading) [ true ↦ None | false ↦ beyond b inside ] ] ≡ Some r
-        → ((s : Reading) → inside ≡ Some s → IsEnd s.rest bs) → IsEnd r.rest (b ∷ bs)
-    go true barred e k = same-left bs r.rest (ap (λ (t : Reading). t.rest) (some-is e)) (beyond-byte b bs (whole-end bs))
-    go false true e k = none-some e
-    go false false e k = beyond-end b bs inside r e k
+    go : (last : Bool) → closes b ≡ last → (barred : Bool)
+        → elim last as (λ _. Option Reading) [
+          | true ↦ Some (record {
+            text = [];
+            rest = bs;
+          })
+          | false ↦ elim barred as (λ _. Option Reading) [ true ↦ None | false ↦ beyond b inside ]
+        ] ≡ Some r
+        → ((s : Reading) → inside ≡ Some s → Closed closes s.rest bs) → Closed closes r.rest (b ∷ bs)
+    go true h barred e k =
+        subst (λ (t : Reading). Closed closes t.rest (b ∷ bs)) (some-is e) (record { last = b; passes = h; end = whole-end (b ∷ bs) })
+    go false h true e k = none-some e
+    go false h false e k = beyond-last closes b bs inside r e k
+
+closed_by-end : (closes forbidden : ℕ → Bool) (escaped : Bool) (text : List ℕ) (r : Reading)
+    → up_to_closing closes forbidden escaped text ≡ Some r → IsEnd r.rest text
+closed_by-end closes forbidden escaped text r e =
+    let c = closed_by-last closes forbidden escaped text r e in end-of-end c.end (beyond-byte c.last r.rest (whole-end r.rest))
 
 bare-end : (opened : ℕ) (escaped : Bool) (text : List ℕ) (r : Reading) → bare_run opened escaped text ≡ Some r → IsEnd r.rest text
 unfolding bare_run
@@ -86,17 +129,22 @@ bare-end opened false (b ∷ bs) r e =
     go false true e k = none-some e
     go false false e k = beyond-end b bs inside r e k
 
-label-end : (text : List ℕ) (r : Reading) → label text ≡ Some r → IsEnd r.rest text
+-- a label between its brackets
+label-between : (text : List ℕ) (r : Reading) → label text ≡ Some r → Between 91 93 r.rest text
 unfolding label
-label-end [] r e = none-some e
-label-end (b ∷ bs) r e = go (b == 91) e
+label-between [] r e = none-some e
+label-between (b ∷ bs) r e = go (b == 91) refl e
   where
     inside : Option Reading
     inside = up_to_closing (λ c. c == 93) (λ c. c == 91) false bs
 
-    go : (next : Bool) → elim next as (λ _. Option Reading) [ true ↦ keep_if is_label inside | false ↦ None ] ≡ Some r → IsEnd r.rest (b ∷ bs)
-    go true e = beyond-byte b bs (closed_by-end (λ c. c == 93) (λ c. c == 91) false bs r (kept-is is_label inside r e))
-    go false e = none-some e
+    go : (next : Bool) → (b == 91) ≡ next → elim next as (λ _. Option Reading) [ true ↦ keep_if is_label inside | false ↦ None ] ≡ Some r
+        → Between 91 93 r.rest (b ∷ bs)
+    go true h e =
+        let c = closed_by-last (λ c. c == 93) (λ c. c == 91) false bs r (kept-is is_label inside r e) in
+        between-ends 91 93 bs r.rest (b ∷ bs) (ap (λ x. x ∷ bs) (eqb-true b 91 h))
+        (same-left (c.last ∷ r.rest) (93 ∷ r.rest) (ap (λ x. x ∷ r.rest) (eqb-true c.last 93 c.passes)) c.end)
+    go false h e = none-some e
 
 destination-end : (text : List ℕ) (r : Reading) → destination text ≡ Some r → IsEnd r.rest text
 unfolding destination
@@ -128,72 +176,111 @@ title-end (b ∷ bs) r e = beyond-byte b bs (go (b == 34) (b == 39) (b == 40) (k
 
 -- The ends of links and images
 
-closed-end : (dest title text : List ℕ) (end : LinkEnd) → closed dest title text ≡ Some end → IsEnd end.rest text
+closed-end : (dest title text : List ℕ) (end : LinkEnd) → closed dest title text ≡ Some end → IsEnd (41 ∷ end.rest) text
 closed-end dest title text end e = go (after_word (codes ")") (after_gap text)) refl e
   where
     go : (o : Option (List ℕ)) → after_word (codes ")") (after_gap text) ≡ o
-        → option_map (link_end (unescape dest, unescape title)) o ≡ Some end → IsEnd end.rest text
+        → option_map (link_end (unescape dest, unescape title)) o ≡ Some end → IsEnd (41 ∷ end.rest) text
     go None f e = none-some e
-    go (Some rest) f e = end-of-end (gap-end text) (same-left rest end.rest (ap (λ (t : LinkEnd). t.rest) (some-is e)) (word-end (codes ")") (after_gap text) rest f))
+    go (Some rest) f e =
+        same-left (after_gap text) (41 ∷ end.rest) (word-front (codes ")") (after_gap text) rest f
+        ∙ ap (λ (t : LinkEnd). 41 ∷ t.rest) (some-is e)) (gap-end text)
 
-after_destination-end : (dest text : List ℕ) (end : LinkEnd) → after_destination dest text ≡ Some end → IsEnd end.rest text
+after_destination-end : (dest text : List ℕ) (end : LinkEnd) → after_destination dest text ≡ Some end → IsEnd (41 ∷ end.rest) text
 unfolding after_destination
 after_destination-end dest text end e = go (is_blank_next text) (title (after_gap text)) refl e
   where
     go : (blank : Bool) (o : Option Reading) → title (after_gap text) ≡ o → elim blank as (λ _. Option LinkEnd) [
       | true ↦ elim o as (λ _. Option LinkEnd) [ Some t ↦ closed dest t.text t.rest | None ↦ closed dest [] text ]
       | false ↦ closed dest [] text
-    ] ≡ Some end → IsEnd end.rest text
+    ] ≡ Some end → IsEnd (41 ∷ end.rest) text
     go true (Some t) f e = end-of-end (end-of-end (gap-end text) (title-end (after_gap text) t f)) (closed-end dest t.text t.rest end e)
     go true None f e = closed-end dest [] text end e
     go false o f e = closed-end dest [] text end e
 
-inline_end-end : (text : List ℕ) (end : LinkEnd) → inline_end text ≡ Some end → IsEnd end.rest text
+inline_end-between : (text : List ℕ) (end : LinkEnd) → inline_end text ≡ Some end → Between 40 41 end.rest text
 unfolding inline_end
-inline_end-end text end e = go (after_word (codes "(") text) refl e
+inline_end-between text end e = go (after_word (codes "(") text) refl e
   where
     in_parentheses : List ℕ → Option Reading → Option LinkEnd
     in_parentheses inside o = elim o as (λ _. Option LinkEnd) [ Some d ↦ after_destination d.text d.rest | None ↦ closed [] [] inside ]
 
     go : (o : Option (List ℕ)) → after_word (codes "(") text ≡ o
-        → (o and_then λ inside. in_parentheses inside (destination (after_gap inside))) ≡ Some end → IsEnd end.rest text
+        → (o and_then λ inside. in_parentheses inside (destination (after_gap inside))) ≡ Some end → Between 40 41 end.rest text
     go None f e = none-some e
-    go (Some inside) f e = end-of-end (word-end (codes "(") text inside f) (by (destination (after_gap inside)) refl e)
+    go (Some inside) f e =
+        between-ends 40 41 inside end.rest text (word-front (codes "(") text inside f) (by (destination (after_gap inside)) refl e)
       where
-        by : (o : Option Reading) → destination (after_gap inside) ≡ o → in_parentheses inside o ≡ Some end → IsEnd end.rest inside
+        by : (o : Option Reading) → destination (after_gap inside) ≡ o → in_parentheses inside o ≡ Some end → IsEnd (41 ∷ end.rest) inside
         by (Some d) g e = end-of-end (end-of-end (gap-end inside) (destination-end (after_gap inside) d g)) (after_destination-end d.text d.rest end e)
         by None g e = closed-end [] [] inside end e
 
-reference_end-end : (defined : Defined) (source text : List ℕ) (end : LinkEnd) → reference_end defined source text ≡ Some end → IsEnd end.rest text
+-- what follows the `]`, with what is left
+pub record Tailed (rest text : List ℕ) : Type 0 where
+  pub tail : List ℕ
+  pub is : text ≡ tail ++ rest
+  pub law : IsTail tail
+
+parenthesised : (rest text : List ℕ) → Between 40 41 rest text → Tailed rest text
+parenthesised rest text w =
+    record {
+      tail = 40 ∷ (w.inside ++ 41 ∷ []);
+      is = w.is ∙ ap (λ t. 40 ∷ t) (sym (append_assoc w.inside (41 ∷ []) rest));
+      law = inr (inl (w.inside, refl));
+    }
+
+in-brackets : (rest text : List ℕ) → Between 91 93 rest text → Tailed rest text
+in-brackets rest text w =
+    record {
+      tail = 91 ∷ (w.inside ++ 93 ∷ []);
+      is = w.is ∙ ap (λ t. 91 ∷ t) (sym (append_assoc w.inside (93 ∷ []) rest));
+      law = inr (inr (w.inside, refl));
+    }
+
+left-as : (text a b : List ℕ) → a ≡ b → Tailed a text → Tailed b text
+left-as text a b e w = subst (λ t. Tailed t text) e w
+
+reference_end-tail : (defined : Defined) (source text : List ℕ) (end : LinkEnd) → reference_end defined source text ≡ Some end
+    → Tailed end.rest text
 unfolding reference_end
-reference_end-end defined source text end e = go (label text) refl e
+reference_end-tail defined source text end e = go (label text) refl e
   where
     full : Reading → Option LinkEnd
     full l = elim (target_of defined l.text) [ Some target ↦ Some (link_end target l.rest) | None ↦ None ]
 
-    full-end : (l : Reading) → full l ≡ Some end → IsEnd l.rest text → IsEnd end.rest text
-    full-end l e h = by (target_of defined l.text) e
+    full-tail : (l : Reading) → full l ≡ Some end → Tailed l.rest text → Tailed end.rest text
+    full-tail l e h = by (target_of defined l.text) e
       where
-        by : (o : Option Target) → elim o as (λ _. Option LinkEnd) [ Some target ↦ Some (link_end target l.rest) | None ↦ None ] ≡ Some end → IsEnd end.rest text
+        by : (o : Option Target) → elim o as (λ _. Option LinkEnd) [ Some target ↦ Some (link_end target l.rest) | None ↦ None ] ≡ Some end
+            → Tailed end.rest text
         by None e = none-some e
-        by (Some target) e = same-left l.rest end.rest (ap (λ (t : LinkEnd). t.rest) (some-is e)) h
+        by (Some target) e = left-as text l.rest end.rest (ap (λ (t : LinkEnd). t.rest) (some-is e)) h
 
-    other : (o : Option Target) → collapsed_or_shortcut o text ≡ Some end → IsEnd end.rest text
+    other : (o : Option Target) → collapsed_or_shortcut o text ≡ Some end → Tailed end.rest text
     other None e = none-some e
     other (Some target) e = by (after_word (codes "[]") text) refl e
       where
         by : (next : Option (List ℕ)) → after_word (codes "[]") text ≡ next
-            → elim next as (λ _. Option LinkEnd) [ Some rest ↦ Some (link_end target rest) | None ↦ Some (link_end target text) ] ≡ Some end → IsEnd end.rest text
-        by (Some rest) f e = same-left rest end.rest (ap (λ (t : LinkEnd). t.rest) (some-is e)) (word-end (codes "[]") text rest f)
-        by None f e = same-left text end.rest (ap (λ (t : LinkEnd). t.rest) (some-is e)) (whole-end text)
+            → elim next as (λ _. Option LinkEnd)
+            [ Some rest ↦ Some (link_end target rest) | None ↦ Some (link_end target text) ] ≡ Some end → Tailed end.rest text
+        by (Some rest) f e =
+            left-as text rest end.rest (ap (λ (t : LinkEnd). t.rest) (some-is e)) (in-brackets rest text (record {
+              inside = [];
+              is = word-front (codes "[]") text rest f;
+            }))
+        by None f e =
+            left-as text text end.rest (ap (λ (t : LinkEnd). t.rest) (some-is e)) (record { tail = []; is = refl; law = inl refl })
 
-    go : (o : Option Reading) → label text ≡ o → elim o as (λ _. Option LinkEnd) [ Some l ↦ full l | None ↦ collapsed_or_shortcut (target_between defined source) text ] ≡ Some end → IsEnd end.rest text
-    go (Some l) f e = full-end l e (label-end text l f)
+    go : (o : Option Reading) → label text ≡ o
+        → elim o as (λ _. Option LinkEnd)
+        [ Some l ↦ full l | None ↦ collapsed_or_shortcut (target_between defined source) text ] ≡ Some end → Tailed end.rest text
+    go (Some l) f e = full-tail l e (in-brackets l.rest text (label-between text l f))
     go None f e = other (target_between defined source) e
 
-pub end_at-end : (rules : Rules) (defined : Defined) (source text : List ℕ) (end : LinkEnd) → end_at rules defined source text ≡ Some end → IsEnd end.rest text
+pub end_at-tail : (rules : Rules) (defined : Defined) (source text : List ℕ) (end : LinkEnd) → end_at rules defined source text ≡ Some end
+    → Tailed end.rest text
 unfolding end_at
-end_at-end rules defined source text end e = go (end_if_followed rules (inline_end text)) refl e
+end_at-tail rules defined source text end e = go (end_if_followed rules (inline_end text)) refl e
   where
     followed : (o : Option LinkEnd) (found : LinkEnd) → end_if_followed rules o ≡ Some found → o ≡ Some found
     followed None found f = none-some f
@@ -204,9 +291,15 @@ end_at-end rules defined source text end e = go (end_if_followed rules (inline_e
         by false f = none-some f
 
     go : (o : Option LinkEnd) → end_if_followed rules (inline_end text) ≡ o
-        → (o <|> end_if_followed rules (reference_end defined source text)) ≡ Some end → IsEnd end.rest text
-    go (Some found) f e = same-left found.rest end.rest (ap (λ (t : LinkEnd). t.rest) (some-is e)) (inline_end-end text found (followed (inline_end text) found f))
-    go None f e = reference_end-end defined source text end (followed (reference_end defined source text) end e)
+        → (o <|> end_if_followed rules (reference_end defined source text)) ≡ Some end → Tailed end.rest text
+    go (Some found) f e =
+        left-as text found.rest end.rest (ap (λ (t : LinkEnd). t.rest) (some-is e))
+        (parenthesised found.rest text (inline_end-between text found (followed (inline_end text) found f)))
+    go None f e = reference_end-tail defined source text end (followed (reference_end defined source text) end e)
+
+pub end_at-end : (rules : Rules) (defined : Defined) (source text : List ℕ) (end : LinkEnd) → end_at rules defined source text ≡ Some end
+    → IsEnd end.rest text
+end_at-end rules defined source text end e = let t = end_at-tail rules defined source text end e in record { front = t.tail; is = t.is }
 
 by_bracket-end : (rules : Rules) (defined : Defined) (found : OpenerFound) (rest : List ℕ) → IsEnd (closed_by_bracket rules defined found rest).rest rest
 unfolding closed_by_bracket

@@ -113,6 +113,30 @@ paired-room before o inside c after =
     (without-room n o (used-some o c))
     (subst (λ k. k < room (Delimiters c)) (sym (sum_by-cons room e (without n c) ∙ zero-add (sum_by room (without n c)))) (without-room n c (used-some o c)))
 
+-- the opener that a search finds fits the closer
+nearest-fits : (c : Run) (before inside : List Item) (found : Opened) → nearest_opener c before inside ≡ Some found
+    → (found.opener.opens && delimiters_match c found.opener) ≡ true
+unfolding nearest_opener
+nearest-fits c [] inside found e = absurd (none-some found e)
+nearest-fits c (Characters t ∷ before) inside found e = nearest-fits c before (Characters t ∷ inside) found e
+nearest-fits c (Finished i ∷ before) inside found e = nearest-fits c before (Finished i ∷ inside) found e
+nearest-fits c (Linked i ∷ before) inside found e = nearest-fits c before (Linked i ∷ inside) found e
+nearest-fits c (Opener b n ∷ before) inside found e = nearest-fits c before (Opener b n ∷ inside) found e
+nearest-fits c (Delimiters r ∷ before) inside found e =
+    go (r.opens && delimiters_match c r) refl (λ h. nearest-fits c before (Delimiters r ∷ inside) found h)
+  where
+    go : (b : Bool) → (r.opens && delimiters_match c r) ≡ b
+        → (nearest_opener c before (Delimiters r ∷ inside) ≡ Some found → (found.opener.opens && delimiters_match c found.opener) ≡ true)
+        → (found.opener.opens && delimiters_match c found.opener) ≡ true
+    go true h further =
+        let same = same_Some (opened_at r before inside) found (sym (nearest-found c r before inside h) ∙ e) in
+        ap (λ (o : Opened). o.opener.opens && delimiters_match c o.opener) (sym same) ∙ h
+    go false h further = further (sym (nearest-passes c r before inside h) ∙ e)
+
+same-character : (c o : Run) → (o.opens && delimiters_match c o) ≡ true → o.character ≡ c.character
+unfolding delimiters_match
+same-character c o e = grind (arith, e)
+
 -- what a pair is made of
 pub record Split (items out : List Item) : Type 0 where
   pub found : Opened
@@ -120,6 +144,7 @@ pub record Split (items out : List Item) : Type 0 where
   pub after : List Item
   pub whole : items ≡ together found ++ Delimiters closer ∷ after
   pub result : out ≡ pair_of found closer after
+  pub same : found.opener.character ≡ closer.character
 
 moved : (i : Item) (before after out : List Item) → Split (reverse (i ∷ before) ++ after) out → Split (reverse before ++ i ∷ after) out
 moved i before after out = subst (λ l. Split l out) (reverse-first i before after)
@@ -143,6 +168,7 @@ leftmost-splits before (Delimiters r ∷ after) out e = go r.closes (nearest_ope
       after = after;
       whole = ap (λ l. l ++ Delimiters r ∷ after) (sym (append-nil (reverse before)) ∙ nearest-splits r before [] found s);
       result = sym (same_Some (pair_of found r after) out (sym (leftmost-pairs r before after found h s) ∙ e));
+      same = same-character r found.opener (nearest-fits r before [] found s);
     }
 
 -- each pair makes the room less

@@ -1,0 +1,10 @@
+pub mod InlineParts
+pub mod ResolvedTexts
+pub mod WrittenSpans
+pub mod AtomsTaken
+pub mod OneCut
+pub mod PlacedItems
+pub mod PairingCuts
+pub mod ReadingCuts
+pub mod NestedPlaces
+pub mod CharacterPlaces
