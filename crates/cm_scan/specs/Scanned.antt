@@ -16,6 +16,10 @@ ending (Some x) end = Some (x, end)
 abbrev pub reading_of : List ℕ → Option (Bor (List ℕ) × ℕ) → Option Reading
 reading_of text read = option_map (λ r. record { text = r.0.now; rest = drop r.1 text }) read
 
+-- the part up to a run, and what is left after it, by the places where the run starts and ends
+abbrev pub run_at : List ℕ → ℕ → Option (ℕ × ℕ) → Option Reading
+run_at text from run = option_map (λ r. record { text = slice_range text from r.0; rest = drop r.1 text }) run
+
 -- a part is at a place of a text, and its ends part characters
 pub record IsAt (text : List ℕ) (place : ℕ) (part : List ℕ) : Type 0 where
   pub start : IsCharBoundary text place

@@ -5,8 +5,7 @@ ghost use Rattle.std.specs.Str.{IsCharBoundary};
 ghost use Rattle.memchr.specs.Find.{IsFirstByte, is_byte};
 ghost use Rattle.cm_scan.specs.Words.{run_length, after_run};
 ghost use Rattle.cm_scan.specs.spans.CodeSpans.{up_to_run, spanned_as_written, code_span, span_content};
-ghost use Rattle.cm_scan.specs.Scanned.{reading_of};
-ghost use Rattle.cm_scan.specs.steps.SpanSteps.{run_at};
+ghost use Rattle.cm_scan.specs.Scanned.{reading_of, run_at};
 
 use crate::plain_spans;
 use crate::words::{after_run, bytes_from};

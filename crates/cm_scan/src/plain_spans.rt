@@ -1,9 +1,8 @@
 //! Autolinks and code spans for callers that count no looks.
 ghost use Rattle.std.specs.Prelude.{◌≡◌, ◌<◌, ◌≤◌, ◌-◌, false, length, drop, get_or, option_map, IfSome};
-ghost use Rattle.cm_scan.specs.Scanned.{autolink_with};
+ghost use Rattle.cm_scan.specs.Scanned.{autolink_with, run_at};
 ghost use Rattle.cm_scan.specs.spans.Autolinks.{followed_autolink};
 ghost use Rattle.cm_scan.specs.spans.CodeSpans.{up_to_run};
-ghost use Rattle.cm_scan.specs.steps.SpanSteps.{run_at};
 
 use crate::{autolinks, code_spans};
 use cm_text::{Looks, Rest, Rules};

@@ -2,7 +2,7 @@
 use Rattle.cm_inline.proofs.lemmas.Words.{◌≡◌, ℕ, ◌+◌, ◌-◌, ◌<◌, ◌≤◌, false, List, length, drop, get_or, Option, sym, ap, subst, ◌∙◌, arith, IsUtf8, IsCharBoundary, run_length, after_run, up_to_run}
 use Rattle.cm_inline.proofs.lemmas.Words.{IsCharBoundary-before_ascii, IsCharBoundary-after_ascii}
 use Rattle.cm_scan.specs.spans.CodeSpans.{code_span, span_content}
-use Rattle.cm_scan.specs.steps.SpanSteps.{run_at}
+use Rattle.cm_scan.specs.Scanned.{run_at}
 use Rattle.cm_scan.proofs.lemmas.texts.WordLemmas.{run_step}
 use Rattle.cm_scan.proofs.lemmas.spans.BacktickStrings.{span-is, span-content}
 use Rattle.cm_scan.proofs.lemmas.spans.BacktickRuns.{run-last, run-over}

@@ -3,7 +3,7 @@ use Rattle.std.specs.Prelude.{IsUtf8}
 use Rattle.std.specs.Str.{IsCharBoundary}
 use Rattle.std.proofs.lemmas.Str.{IsCharBoundary-after_ascii, IsCharBoundary-before_ascii}
 use Rattle.cm_scan.specs.spans.CodeSpans.{up_to_run}
-use Rattle.cm_scan.specs.steps.SpanSteps.{run_at}
+use Rattle.cm_scan.specs.Scanned.{run_at}
 use Rattle.cm_scan.proofs.lemmas.spans.ReachLemmas.{map_some}
 use Rattle.cm_scan.proofs.code_spans.next_run.Goals as goal
 

@@ -7,7 +7,7 @@ use Rattle.std.proofs.lemmas.Bool.{eqb-true}
 use Rattle.cm_scan.specs.Words.{run_length, after_run}
 use Rattle.cm_scan.specs.inlines.Links.{Reading, beyond}
 use Rattle.cm_scan.specs.spans.CodeSpans.{up_to_run, as_written, spanned_as_written, code_span, span_content}
-use Rattle.cm_scan.specs.steps.SpanSteps.{run_at}
+use Rattle.cm_scan.specs.Scanned.{run_at}
 use Rattle.cm_scan.proofs.lemmas.texts.WordsGoOn.{none-some}
 use Rattle.cm_scan.proofs.lemmas.links.BracketedParts.{ahead, ahead_from, slice-none}
 use Rattle.cm_scan.proofs.lemmas.texts.WordLemmas.{run_step}
