@@ -180,6 +180,8 @@ fn backticks<L: Ledger>(
     ensures atom { IfOk result (λ read.
         (rules : Rules) → Begins rules source.now at read.0 read.1) }
     ensures knows { OnOk result (Knows source.now ends.new) }
+    ensures spare { OnOk result (spare source.now ends.new ≡ spare source.now ends.old) }
+    ensures past { IsPast source.now at ends.old → OnOk result (IsPast source.now (at + 1) ends.new) }
     ensures looks { IfOk result (λ read. looks.new + code_spare source.now ends.new + 19 * at
         ≤ looks.old + code_spare source.now ends.old + 19 * read.1 + 4) }
 {
