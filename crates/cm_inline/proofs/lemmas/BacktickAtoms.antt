@@ -8,29 +8,41 @@ use Rattle.cm_scan.proofs.lemmas.spans.BacktickStrings.{span-is, span-content}
 use Rattle.cm_scan.proofs.lemmas.spans.BacktickRuns.{run-last, run-over}
 use Rattle.cm_inline.specs.steps.Reads.{Stands}
 
-module _ (source text : List ℕ) (at start : ℕ) (same : text ≡ source) (stands : Stands source at 96) (run : start ≡ at + run_length 96 (drop at text)) where
+-- the string at a place of a source, as it is read in the source's bytes
+pub record RunHere (source text : List ℕ) (at start : ℕ) : Type 0 where
+  pub same : text ≡ source
+  pub utf8 : IsUtf8 source
+  pub stands : Stands source at 96
+  pub run : start ≡ at + run_length 96 (drop at text)
+  pub left : drop start text ≡ after_run 96 (drop at text)
+  pub within : start ≤ length text
+
+module _ {source text : List ℕ} {at start : ℕ} (here : RunHere source text at start) where
   pub run-end : start ≡ at + run_length 96 (drop at source)
-  run-end = run ∙ ap (λ t. at + run_length 96 (drop at t)) same
+  run-end = here.run ∙ ap (λ t. at + run_length 96 (drop at t)) here.same
 
   pub run-more : at < start
-  run-more = let more = run_step 96 source at stands.within stands.byte in omega (arith, run-end, more)
+  run-more = let more = run_step 96 source at here.stands.within here.stands.byte in omega (arith, run-end, more)
 
   pub run-past : get_or source start 0 ≡ 96 → ⊥
   run-past = run-over source at start run-end
 
-  pub run-boundary : IsUtf8 source → start ≤ length source → IsCharBoundary source start
-  run-boundary utf8 within =
+  pub run-boundary : IsCharBoundary source start
+  run-boundary =
       let last : start - 1 + 1 ≡ start = omega (arith, run-more) in
-      subst (IsCharBoundary source) last (IsCharBoundary-after_ascii source (start - 1) utf8 (omega (arith, run-more, within)) (omega (arith, run-last source at start run-end run-more)))
+      let tick = run-last source at start run-end run-more in
+      let within : start - 1 < length source = omega (arith, run-more, here.within, ap length here.same) in
+      subst (IsCharBoundary source) last (IsCharBoundary-after_ascii source (start - 1) here.utf8 within (omega (arith, tick)))
 
-  module _ (beyond : drop start text ≡ after_run 96 (drop at text)) where
-    pub run-beyond : drop start source ≡ after_run 96 (drop at source)
-    run-beyond = ap (drop start) (sym same) ∙ beyond ∙ ap (λ t. after_run 96 (drop at t)) same
+  pub run-beyond : drop start source ≡ after_run 96 (drop at source)
+  run-beyond = ap (drop start) (sym here.same) ∙ here.left ∙ ap (λ t. after_run 96 (drop at t)) here.same
 
-    pub run-read : (found : Option (ℕ × ℕ)) → run_at text start found ≡ up_to_run (start - at) false (drop start text) → span_content (run_at source start found) ≡ code_span (drop at source)
-    run-read found read =
-        span-content (drop at source) (run_at source start found)
-        (ap (λ t. run_at t start found) (sym same) ∙ read ∙ ap (λ t. up_to_run (start - at) false (drop start t)) same ∙ span-is source at start run-end run-beyond (λ e. omega (arith, run-more, e)))
+  pub run-read : (found : Option (ℕ × ℕ)) → run_at text start found ≡ up_to_run (start - at) false (drop start text)
+      → span_content (run_at source start found) ≡ code_span (drop at source)
+  run-read found read =
+      span-content (drop at source) (run_at source start found)
+      (ap (λ t. run_at t start found) (sym here.same) ∙ read ∙ ap (λ t. up_to_run (start - at) false (drop start t)) here.same
+      ∙ span-is source at start run-end run-beyond (λ e. omega (arith, run-more, e)))
 
 -- the places of a search's result are boundaries of characters
 pub close-boundary : (source : List ℕ) (close : ℕ) → close < length source → get_or source close 0 ≡ 96 → IsCharBoundary source close
