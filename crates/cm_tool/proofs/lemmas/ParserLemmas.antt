@@ -21,7 +21,6 @@ use Rattle.cm_block.specs.declared.fault.BlockFault.{BlockFault}
 use Rattle.cm_block.specs.declared.fault.BlockFault.TheVariants as blocks
 use Rattle.cm_block.specs.declared.parser.BlockParser.{BlockParser}
 use Rattle.cm_block.specs.declared.parser.Outline.{Outline}
-use Rattle.cm_block.specs.Faults.{IsTooMuch}
 use Rattle.cm_block.specs.Parser.{HasTaken, TellsDepth}
 use Rattle.cm_block.proofs.lemmas.Depths.{too_deep_stays}
 use Rattle.cm_tool.specs.declared.fault.Fault.{Fault}
@@ -64,12 +63,6 @@ ready_lines (Some (text.NotUtf8 at)) ended feed bytes taken memory going h = h.r
 ready_lines (Some (text.TooLong at)) ended feed bytes taken memory going h = h.ready
 ready_lines (Some text.NoMemory) ended feed bytes taken memory going h = absurd (memory refl)
 
--- a fault of no line, whatever the lines are
-pub too_much_told : (fault : BlockFault) (limits : LimitsView) (lines : List LineView) → IsTooMuch fault → TellsDepth fault limits lines
-too_much_told blocks.NoMemory limits lines e = tt
-too_much_told (blocks.TooLarge place) limits lines e = tt
-too_much_told (blocks.BlocksTooDeep line) limits lines e = absurd e
-
 -- A line isn't taken in: so it is with those that follow it too.
 pub taken_told : (fault : BlockFault) (limits now : LimitsView) (lines front next all : List LineView) (line : LineView) → now ≡ limits → front ++ line ∷ next ≡ all
     → TellsDepth fault now ((lines ++ front) ++ line ∷ []) → AreLines (lines ++ all) → TellsDepth fault limits (lines ++ all)
@@ -83,7 +76,6 @@ taken_told fault limits now lines front next all line same parts tells are =
         → TellsDepth fault limits (((lines ++ front) ++ line ∷ []) ++ next)
     more (blocks.BlocksTooDeep n) e are = too_deep_stays limits.rules limits.blocks n ((lines ++ front) ++ line ∷ []) next are e
     more blocks.NoMemory e are = tt
-    more (blocks.TooLarge place) e are = tt
 
 abbrev pub doc_with : List Block → List Owner → Doc
 doc_with blocks owners = record { blocks = blocks; owners = owners }
@@ -171,7 +163,6 @@ module _ (limits : LimitsView) where
       by_fault : (fault : BlockFault) → TellsDepth fault limits (ended_of (bytes ++ piece)) → TellsFault (refused fault) (settled_fault_of limits (bytes ++ piece))
       by_fault (blocks.BlocksTooDeep line) e = (faults_in_order limits (bytes ++ piece)).1 ∙ ap (λ o. option_or (option_map BlocksTooDeep o) (option_map told (settled_fault limits.bytes (bytes ++ piece)))) e
       by_fault blocks.NoMemory e = tt
-      by_fault (blocks.TooLarge place) e = tt
 
   -- The text ends with a fault,
   pub end_told : (fault : TextFault) (feed : Feed) (before : BlockParser) (bytes : List ℕ) → Goes limits feed before bytes
@@ -223,7 +214,6 @@ module _ (limits : LimitsView) where
       by_fault : (fault : BlockFault) → TellsDepth fault limits (plain_lines_of (text_of bytes)) → TellsFault (refused fault) (fault_of limits bytes)
       by_fault (blocks.BlocksTooDeep line) e = fault_by_lines feed before bytes (Some line) g end.sound e
       by_fault blocks.NoMemory e = tt
-      by_fault (blocks.TooLarge place) e = tt
 
   -- all lines are taken in
   pub whole_taken : (feed ended : Feed) (before after : BlockParser) (bytes : List ℕ) → Goes limits feed before bytes → Ended ended bytes

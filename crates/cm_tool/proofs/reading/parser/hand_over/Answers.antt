@@ -1,8 +1,8 @@
 use Rattle.std.proofs.Common.{◌∙◌, [], ◌∷◌, ◌++◌, ap, sym, arith, drop, length, subst, append_assoc}
 use Rattle.std.proofs.lemmas.Result.{err_from_is_err_and}
 use Rattle.cm_text.specs.Views.{seen_view}
-use Rattle.cm_block.specs.Parser.{HasTaken}
-use Rattle.cm_tool.proofs.lemmas.ParserLemmas.{taken_told, too_much_told}
+use Rattle.cm_block.specs.Parser.{HasTaken, TellsDepth}
+use Rattle.cm_tool.proofs.lemmas.ParserLemmas.{taken_told}
 use Rattle.cm_tool.proofs.lemmas.PassedLemmas.{all_handed, all_passed, all_stands, one_passed, hands_then}
 use Rattle.cm_tool.proofs.reading.parser.hand_over.Goals as goal
 
@@ -33,7 +33,8 @@ returns-in_err-line_view-clause-told c =
 pub returns-in_err-hand_over_text-clause-told : goal.returns-in_err-hand_over_text-clause-told
 returns-in_err-hand_over_text-clause-told c =
     let p = err_from_is_err_and c.from_residual.result c.from_residual.ensures.1 in
-    rw (p.1, p.2) (λ lines h are. too_much_told c.in_err-hand_over_text.field-0.0 c.args.blocks.now.limits (lines ++ c.args.feed.now.cut.ended) c.in_err-hand_over_text.ensures.memory)
+    rw (p.1, p.2) (λ lines h are.
+    subst (λ fault. TellsDepth fault c.args.blocks.now.limits (lines ++ c.args.feed.now.cut.ended)) (sym c.in_err-hand_over_text.ensures.memory) tt)
 
 pub returns-in_default-clause-ready : goal.returns-in_default-clause-ready
 returns-in_default-clause-ready c =
