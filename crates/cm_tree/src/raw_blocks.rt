@@ -157,17 +157,23 @@ impl RawBlocks {
         self.text.len() >= FULL
     }
 
-    /// A place as a block has it. Where it needs more than 32 bits, all memory is requested, which no allocator
-    /// gives.
+    /// The error of a request for all memory, which no allocator gives.
+    #[cold]
+    fn refusal(&self) -> AllocError {
+        match String::with_capacity(*self.text.allocator(), usize::MAX) {
+            Err(refused) => refused,
+            Ok(_) => AllocError,
+        }
+    }
+
+    /// A place as a block has it. Where it needs more than 32 bits, all memory is requested.
+    #[inline(always)]
     fn place(&self, at: usize) -> Result<u32, AllocError>
         ensures { IfOk result (λ place. place ≡ at) }
     {
         match u32::try_from(at) {
             Ok(place) => Ok(place),
-            Err(_) => {
-                String::with_capacity(*self.text.allocator(), usize::MAX)?;
-                Err(AllocError)
-            }
+            Err(_) => Err(self.refusal()),
         }
     }
 
