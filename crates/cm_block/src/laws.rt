@@ -55,8 +55,8 @@ pub fn depths()
     ensures next { TooDeepNext }
 {}
 
-/// The texts of a document's blocks have at most three bytes for each of its own, and one more: U+0000 becomes
-/// three bytes, a tab that is cut up to three spaces, and each line of code ends with a line feed.
+/// The texts of a document's blocks have at most three bytes for each of its own, and one more: U+0000
+/// becomes three bytes, a tab that is cut up to three spaces, and each line of code ends with a line feed.
 #[tactic(auto, using(crate::proofs::lemmas::DocumentSizes::texts_are_short))]
 pub fn texts_are_short()
     ensures { TextsAreShort }

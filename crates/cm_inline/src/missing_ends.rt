@@ -4,8 +4,8 @@
 //! that starts later has an end. For code spans it is where the last backtick string of each length ends,
 //! found in one pass the first time that one is missing. Open tags need no memory: at most three of them are
 //! open at any place, whatever `<` and quotation marks a text has (`tags_reach_thrice` in `cm_scan`).
-ghost use Rattle.std.specs.Prelude.{◌≡◌, ◌+◌, ◌*◌, ◌≤◌, ◌∷◌, ℕ, true, false, None, nat_lt, length, drop, get_or};
-ghost use Rattle.std.specs.Prelude.{IfOk, OnOk, IfSome};
+ghost use Rattle.std.specs.Prelude.{◌≡◌, ◌+◌, ◌*◌, ◌≤◌, ◌∷◌, ℕ, true, false, None, nat_lt, length, drop};
+ghost use Rattle.std.specs.Prelude.{get_or, IfOk, OnOk, IfSome};
 ghost use Rattle.cm_scan.specs.spans.Reach.{needed, needed_after_mark};
 ghost use Rattle.cm_scan.specs.spans.CodeSpans.{up_to_run};
 ghost use Rattle.cm_inline.specs.steps.Missing.{Starts, missing_from, remembered, AreLast, Knows, NoneFrom};
@@ -145,7 +145,8 @@ impl MissingEnds {
         requires { Knows source.now self.old }
         ensures knows { OnOk result (Knows source.now self.new) }
         ensures spare { OnOk result (spare source.now self.new ≡ spare source.now self.old) }
-        ensures past { (at : ℕ) → IsPast source.now at self.old → OnOk result (IsPast source.now at self.new) }
+        ensures past { (at : ℕ) → IsPast source.now at self.old
+            → OnOk result (IsPast source.now at self.new) }
         ensures looks { OnOk result (looks.new + code_spare source.now self.new
             ≤ looks.old + 3 * length source.now) }
     {
