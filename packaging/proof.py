@@ -88,7 +88,7 @@ def parts_of(record: pathlib.Path) -> tuple[str, dict[str, str], dict[str, str]]
 
 
 def check(record: pathlib.Path, program: pathlib.Path) -> None:
-    """Raises what isn't as the record has it: the program that was installed, or the crate's library, of which both
+    """Raises what isn't as the record has it: the program that was installed, or the crate's library, from which both
     others were linked."""
     _, _, sums = parts_of(record)
     library = build.Made(build.LIBRARY).file

@@ -292,8 +292,8 @@ def without_bodies(lines: Sequence[str]) -> Iterator[str]:
 
 
 def promise_at(file: pathlib.Path, found: re.Match[str], lines: Sequence[str], at: int, end: int) -> Call:
-    """What a type promises by a trait: the ghosts and the clauses of the `impl` that these lines are, of which the
-    first was found."""
+    """What a type promises by a trait: the ghosts and the clauses of the `impl` in these lines, whose first was
+    found."""
     text = lines[at:end]
     clauses = re.findall(r"^    ghost (\w+) =", "\n".join(text), re.MULTILINE)
     clauses += [name for name in clauses_in(text) if name not in clauses]

@@ -46,8 +46,8 @@ func Parse(text []byte, options Options) (*Node, error) {
 	return root, nil
 }
 
-// Walk calls visit for a node and each node inside it, in the order of the text. It passes over the description of an image, of which HTML
-// has only the text, Alt.
+// Walk calls visit for a node and each node inside it, in the order of the text. It passes over the description of an image: HTML has only
+// its text, Alt.
 func (n *Node) Walk(visit func(*Node)) {
 	visit(n)
 	for _, child := range n.Children {

@@ -48,7 +48,7 @@ def raw(**texts):
 
 
 def text_of(node):
-    """Returns the text of a heading, of which its id is made."""
+    """Returns the text of a heading, from which its id is made."""
     return "".join("\n" if it["type"] == "break" else it.get("value", "") for it in cmk.walk(node))
 
 

@@ -82,7 +82,7 @@ impl Owners {
         self.definitions.add(label, dest, title)
     }
 
-    /// The owner of each line, of which this number of leaves own some, and the table of the definitions.
+    /// The owner of each line, where this number of leaves own lines, and the table of the definitions.
     pub(crate) fn into_parts(self, leaves: usize) -> (LineOwners, Definitions)
         requires { leaves ≡ self.leaves }
         ensures owners { result.0 ≡ self.owners }

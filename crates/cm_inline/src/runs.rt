@@ -1,5 +1,5 @@
 //! The delimiter runs of a leaf, and the list of those before a closer that may open: entries linked both
-//! ways by their numbers, any of which can be taken out. An entry is read only by a call that counts.
+//! ways by their numbers, from which any can be taken out. An entry is read only by a call that counts.
 //!
 //! The run at hand is the last entry while it pairs. So an entry is looked at in vain at most once for each
 //! kind of closer, and once more if it is taken out between a pair. A pair takes one look, and at least a

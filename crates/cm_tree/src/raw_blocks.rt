@@ -8,7 +8,8 @@
 //! A place has 32 bits, which halves the size of a block. Where one would need more, all memory is requested,
 //! which no allocator gives. No document within the limits gets there, because a byte of it becomes at most
 //! three bytes of its texts (`texts_are_short` in `cm_block`).
-ghost use Rattle.std.specs.Prelude.{◌≡◌, ◌<◌, [], ◌++◌, length, get_or, nat_le, IfOk, OnOk};
+ghost use Rattle.std.specs.Prelude.{◌≡◌, ◌<◌, ◌≤◌, ◌^◌, [], ◌++◌, length, get_or, nat_le};
+ghost use Rattle.std.specs.Prelude.{IfOk, IfErr, OnOk};
 ghost use Rattle.std.specs.List.{slice_range};
 ghost use Rattle.cm_tree.specs.RawBlocks.{raw_inlines, block_in, blocks_in, item_in, items_in};
 ghost use Rattle.cm_tree.specs.RawBlocks.{IsBetween, IsPlaced, ArePlaced, IsItem, AreItems, Grows};
@@ -169,7 +170,8 @@ impl RawBlocks {
     /// A place as a block has it. Where it needs more than 32 bits, all memory is requested.
     #[inline(always)]
     fn place(&self, at: usize) -> Result<u32, AllocError>
-        ensures { IfOk result (λ place. place ≡ at) }
+        ensures place { IfOk result (λ place. place ≡ at) }
+        ensures far { IfErr result (λ refused. 2 ^ 32 ≤ at) }
     {
         match u32::try_from(at) {
             Ok(place) => Ok(place),

@@ -44,7 +44,7 @@ pub(crate) struct Columns<'a> {
     pub(super) view: View<'a>,
 }
 
-/// The same, and it may stay in an item of which there is more than its marker.
+/// The same, and it may stay in an item that has more than its marker.
 #[derive(Drop)]
 pub(crate) struct InItem<'a> {
     pub(super) view: View<'a>,

@@ -209,7 +209,7 @@ last-written list after now number left from to there top kept under own runs is
 pub fresh-opened : (runs : List HeldRun) (number : ℕ) → number < length runs → IsFresh runs number → (run_at runs number).opened ≡ 0
 fresh-opened runs number there fresh = ap (λ (r : PairedRun). r.opened) (sym (get_or-map paired_run runs number no_run no_paired_run there) ∙ fresh)
 
--- the pass goes on after a run of which nothing is left, or that doesn't open
+-- the pass goes on after a run that has nothing left, or that doesn't open
 pub next-rest : (parts : List Part) (old : State) (run : Run) (had : List Item) (new : Holding) (bs : List ℕ) (number left : ℕ) → (run.opens ≡ false) ⊎ (left ≡ 0) → PartAdded parts old run had (state_of new bs number) number left
     → PassGoesOn parts old run had (state_of new bs (number + 1)) number
 next-rest parts old run had new bs number left (inr none) p = next-gone parts old run had (state_of new bs number) number left refl none p

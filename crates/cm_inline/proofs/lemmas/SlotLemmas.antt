@@ -755,7 +755,7 @@ second-left n left r q es h f some is =
     ∙ ap (λ l. last_entry es ++ l) (sym (ap (λ l. l ++ s.below) (cond-false (left == 0) [] (record (entry_of n r) { run = record (run_of r.run) { left = left } } ∷ []) (ne_eqb left 0 some))))
     ∙ ap (λ l. last_entry es ++ leaving left l) (sym s.before)
 
--- a run of which some characters are left
+-- a run that has characters left
 pub left-read : (n left opened : ℕ) (r : HeldRun) (runs now : List HeldRun) → n < length runs → r ≡ run_at runs n → now ≡ with_left n left opened runs → run_of (run_at now n).run ≡ record (run_of r.run) { left = left }
 left-read n left opened r runs now h read is =
     ap (λ rs. run_of (run_at rs n).run) is ∙ ap (λ (x : HeldRun). run_of x.run) (get_or-set_same runs n (left_at left opened (run_at runs n)) no_run h) ∙ ap (λ (x : HeldRun). record (run_of x.run) { left = left }) (sym read)

@@ -19,13 +19,13 @@ invariant_of-self-2 c = blocks-held _ _ _ c.self.invariant c.args.blocks.now _ c
 
 pub returns-clause-item : goal.returns-clause-item
 returns-clause-item c =
-    blocks-last _ _ _ c.self.invariant c.args.blocks.now _ c.in_ok-extend_from_slice.ensures.items (rw c.self.view_is c.requires) c.in_ok-from.from c.in_ok-to.to (omega (arith, c.in_ok-from.ensures)) (omega (arith, c.in_ok-to.ensures, c.len-len.ensures, c.in_ok-extend_from_slice.ensures.len))
+    blocks-last _ _ _ c.self.invariant c.args.blocks.now _ c.in_ok-extend_from_slice.ensures.items (rw c.self.view_is c.requires) c.in_ok-from.from c.in_ok-to.to (omega (arith, c.in_ok-from.ensures.place)) (omega (arith, c.in_ok-to.ensures.place, c.len-len.ensures, c.in_ok-extend_from_slice.ensures.len))
     ∙ ap (λ (r : Raw). blocks_in r c.args.blocks.now) c.self.view_is
 
 pub returns-clause-placed : goal.returns-clause-placed
 returns-clause-placed c =
     let held = blocks-held _ _ _ c.self.invariant c.args.blocks.now _ c.in_ok-extend_from_slice.ensures.items (rw c.self.view_is c.requires) in
-    (omega (arith, c.in_ok-from.ensures, c.in_ok-to.ensures), omega (arith, c.in_ok-to.ensures, c.len-len.ensures, c.in_ok-extend_from_slice.ensures.len, made-length _ _ _ held))
+    (omega (arith, c.in_ok-from.ensures.place, c.in_ok-to.ensures.place), omega (arith, c.in_ok-to.ensures.place, c.len-len.ensures, c.in_ok-extend_from_slice.ensures.len, made-length _ _ _ held))
 
 pub returns-clause-grows : goal.returns-clause-grows
 returns-clause-grows c = rw c.self.view_is at (blocks-beyond _ _ _ c.self.invariant c.args.blocks.now _ c.in_ok-extend_from_slice.ensures.items (rw c.self.view_is c.requires))

@@ -21,7 +21,7 @@ invariant_of-self-2 c = items-held _ _ _ c.self.invariant c.args.items.now _ c.i
 pub returns-clause-block : goal.returns-clause-block
 returns-clause-block c =
     ap (trees.List c.args.kind c.args.tight)
-    (items-last _ _ _ c.self.invariant c.args.items.now _ c.in_ok-extend_from_slice.ensures.items (rw c.self.view_is c.requires) c.in_ok-from.from c.in_ok-to.to (omega (arith, c.in_ok-from.ensures)) (omega (arith, c.in_ok-to.ensures, c.len-len.ensures, c.in_ok-extend_from_slice.ensures.len))
+    (items-last _ _ _ c.self.invariant c.args.items.now _ c.in_ok-extend_from_slice.ensures.items (rw c.self.view_is c.requires) c.in_ok-from.from c.in_ok-to.to (omega (arith, c.in_ok-from.ensures.place)) (omega (arith, c.in_ok-to.ensures.place, c.len-len.ensures, c.in_ok-extend_from_slice.ensures.len))
     ∙ ap (λ (r : Raw). items_in r c.args.items.now) c.self.view_is)
 
 pub returns-clause-grows : goal.returns-clause-grows
